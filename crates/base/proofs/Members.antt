@@ -1,0 +1,84 @@
+-- Laws of membership, of lists without repetition, of counting, and of tests on every element.
+use Prim.Native.Nat.{ℕ, zero, suc, _<_}
+use native.Mathlib.Nat.{le-of-suc-le-suc}
+use native.Mathlib.Omega.{arith}
+use mathlib.Core.Bool.{Bool, true, false, cond, not, or-true}
+use mathlib.Core.List.{List, [], _∷_}
+use mathlib.Core.Logic.{_⊎_, inl, inr}
+use mathlib.Core.Path.{_≡_, refl, sym, ap, _∙_}
+use borrow.Author.Tests.{eqb-true, eqb-false, eq-eqb, ne-eqb, not-true}
+use lib.Dec.{eqb}
+use lib.ListN.{length, getD}
+use Rattle.base.specs.Lists.{all, keep, member, distinct, times}
+use Rattle.base.proofs.Bools.{and-parts}
+use Rattle.base.proofs.Tests.{either, never}
+
+-- the element at a position stands in the list, and what stands in it has a position
+pub member-at : (xs : List ℕ) (i : ℕ) → i < length xs → member (getD xs i 0) xs ≡ true
+unfolding member
+member-at [] i h = absurd (omega arith)
+member-at (x ∷ xs) zero h = rw (eq-eqb x x refl)
+member-at (x ∷ xs) (suc i) h = rw (member-at xs i (le-of-suc-le-suc h), or-true)
+
+pub position : (x : ℕ) (xs : List ℕ) → member x xs ≡ true → (i : ℕ) × (i < length xs) × (getD xs i 0 ≡ x)
+unfolding member
+position x [] h = absurd (never h refl)
+position x (y ∷ xs) h = go (either (eqb x y) (member x xs) h) (position x xs)
+  where
+    go : (eqb x y ≡ true) ⊎ (member x xs ≡ true) → (member x xs ≡ true → (i : ℕ) × (i < length xs) × (getD xs i 0 ≡ x))
+        → (i : ℕ) × (i < length (y ∷ xs)) × (getD (y ∷ xs) i 0 ≡ x)
+    go (inl e) found = (0, omega arith, sym (eqb-true x y e))
+    go (inr m) found = let p = found m in (suc (p .0), omega arith, p .2)
+
+fresh-head : (x : ℕ) (xs : List ℕ) (j : ℕ) → distinct (x ∷ xs) ≡ true → j < length xs → x ≡ getD xs j 0 → ⊥
+unfolding distinct
+fresh-head x xs j d h e =
+    never (rw (← e) at (member-at xs j h)) (not-true (member x xs) (and-parts (not (member x xs)) (distinct xs) d .0))
+
+-- in a list without repetition each element has one position
+pub distinct-positions : (xs : List ℕ) (i j : ℕ) → distinct xs ≡ true → i < length xs → j < length xs → getD xs i 0 ≡ getD xs j 0
+    → i ≡ j
+unfolding distinct
+distinct-positions [] i j d h k e = absurd (omega arith)
+distinct-positions (x ∷ xs) zero zero d h k e = refl
+distinct-positions (x ∷ xs) zero (suc j) d h k e = absurd (fresh-head x xs j d (le-of-suc-le-suc k) e)
+distinct-positions (x ∷ xs) (suc i) zero d h k e = absurd (fresh-head x xs i d (le-of-suc-le-suc h) (sym e))
+distinct-positions (x ∷ xs) (suc i) (suc j) d h k e =
+    ap suc (distinct-positions xs i j (and-parts (not (member x xs)) (distinct xs) d .1) (le-of-suc-le-suc h) (le-of-suc-le-suc k) e)
+
+-- a test on every element says it of each
+pub all-at : {A : Type 0} (p : A → Bool) (xs : List A) (i : ℕ) (d : A) → all p xs ≡ true → i < length xs → p (getD xs i d) ≡ true
+unfolding all
+all-at p [] i d a h = absurd (omega arith)
+all-at p (x ∷ xs) zero d a h = and-parts (p x) (all p xs) a .0
+all-at p (x ∷ xs) (suc i) d a h = all-at p xs i d (and-parts (p x) (all p xs) a .1) (le-of-suc-le-suc h)
+
+-- counting: what stands in the list counts, what does not counts nothing
+pub times-same : (x : ℕ) (xs : List ℕ) → times x (x ∷ xs) ≡ suc (times x xs)
+unfolding times
+times-same x xs = rw (eq-eqb x x refl)
+
+pub times-other : (x y : ℕ) (xs : List ℕ) → (x ≡ y → ⊥) → times x (y ∷ xs) ≡ times x xs
+unfolding times
+times-other x y xs n = rw (ne-eqb x y n)
+
+-- counting in a list out of which a number is kept
+pub times-kept-out : (x : ℕ) (xs : List ℕ) → times x (keep (λ (y : ℕ). not (eqb y x)) xs) ≡ 0
+unfolding keep times
+times-kept-out x [] = refl
+times-kept-out x (y ∷ xs) = go (eqb y x) refl (times-kept-out x xs)
+  where
+    go : (b : Bool) → eqb y x ≡ b → times x (keep (λ (z : ℕ). not (eqb z x)) xs) ≡ 0
+        → times x (cond (not b) (y ∷ keep (λ (z : ℕ). not (eqb z x)) xs) (keep (λ (z : ℕ). not (eqb z x)) xs)) ≡ 0
+    go true e rest = rest
+    go false e rest = times-other x y (keep (λ (z : ℕ). not (eqb z x)) xs) (λ q. eqb-false y x e (sym q)) ∙ rest
+
+pub times-kept : (d x : ℕ) (xs : List ℕ) → (d ≡ x → ⊥) → times d (keep (λ (y : ℕ). not (eqb y x)) xs) ≡ times d xs
+unfolding keep times
+times-kept d x [] n = refl
+times-kept d x (y ∷ xs) n = go (eqb y x) refl (times-kept d x xs n)
+  where
+    go : (b : Bool) → eqb y x ≡ b → times d (keep (λ (z : ℕ). not (eqb z x)) xs) ≡ times d xs
+        → times d (cond (not b) (y ∷ keep (λ (z : ℕ). not (eqb z x)) xs) (keep (λ (z : ℕ). not (eqb z x)) xs)) ≡ times d (y ∷ xs)
+    go true e rest = rest ∙ sym (times-other d y xs (λ q. n (q ∙ eqb-true y x e)))
+    go false e rest = ap (λ (k : ℕ). cond (eqb d y) (suc k) k) rest

@@ -1,0 +1,2 @@
+-- The modules of `base`: lists and tests.
+pub mod Lists

@@ -1,0 +1,58 @@
+-- Functions on lists that the definitions of the other crates use.
+use Prim.Native.Nat.{ℕ, zero, suc, _+_}
+use mathlib.Core.Bool.{Bool, true, false, cond, not, _&&_, _||_}
+use mathlib.Core.List.{List, [], _∷_, _++_}
+use lib.Dec.{eqb}
+use lib.ListN.{length}
+
+module _ {A : Type 0} where
+  -- the test holds of every element
+  unfoldable pub all : (A → Bool) → List A → Bool
+  all p [] = true
+  all p (x ∷ xs) = p x && all p xs
+
+  -- the elements of which the test holds, in their order
+  unfoldable pub keep : (A → Bool) → List A → List A
+  keep p [] = []
+  keep p (x ∷ xs) = cond (p x) (x ∷ keep p xs) (keep p xs)
+
+  -- the lists one after the other
+  unfoldable pub flat : List (List A) → List A
+  flat [] = []
+  flat (xs ∷ xss) = xs ++ flat xss
+
+  unfoldable pub empty : List A → Bool
+  empty [] = true
+  empty (x ∷ xs) = false
+
+-- the number stands in the list
+unfoldable pub member : ℕ → List ℕ → Bool
+member x [] = false
+member x (y ∷ ys) = eqb x y || member x ys
+
+-- no number stands twice in the list
+unfoldable pub distinct : List ℕ → Bool
+distinct [] = true
+distinct (x ∷ xs) = not (member x xs) && distinct xs
+
+-- the two lists are the same
+unfoldable pub same : List ℕ → List ℕ → Bool
+same [] [] = true
+same [] (y ∷ ys) = false
+same (x ∷ xs) [] = false
+same (x ∷ xs) (y ∷ ys) = eqb x y && same xs ys
+
+-- the first number is b
+unfoldable pub begins : ℕ → List ℕ → Bool
+begins b [] = false
+begins b (x ∷ xs) = eqb x b
+
+-- how often the number stands in the list
+unfoldable pub times : ℕ → List ℕ → ℕ
+times x [] = 0
+times x (y ∷ ys) = cond (eqb x y) (suc (times x ys)) (times x ys)
+
+-- the longest front part in which the test holds of no number
+unfoldable pub until : (ℕ → Bool) → List ℕ → List ℕ
+until stop [] = []
+until stop (x ∷ xs) = cond (stop x) [] (x ∷ until stop xs)

@@ -1,0 +1,198 @@
+-- The clauses of the text as the reader's loop meets them: faults of a literal, the walk, the numbers written.
+use Prim.Native.Nat.{ℕ, zero, suc, _+_, _-_, _≤_, _<_}
+use mathlib.Core.Path.{_≡_, refl, ap, ap₂, sym, _∙_}
+use mathlib.Core.Logic.{_⊎_, inl, inr, ⊎-elim}
+use mathlib.Core.Bool.{Bool, true, false, cond, _&&_}
+use mathlib.Core.List.{List, [], _∷_, _++_, map, append-nil, append-assoc}
+use native.Mathlib.Nat.{add-zero}
+use native.Mathlib.Omega.{arith}
+use borrow.Author.Tests.{lt-ltb, le-ltb, ltb-false, le-leb, lt-leb, eq-eqb, ne-eqb}
+use lib.Dec.{leb, ltb, eqb}
+use lib.ListN.{length, getD, take, drop, set, length-set, length-append, length-drop}
+use lib.Seq.{drop-set-add, drop-set-lt, take-set-le, take-suc-set}
+use Rattle.base.specs.Lists.{flat, empty, member}
+use Rattle.base.proofs.Bools.{and-false}
+use Rattle.book.specs.Formula.{Formula, variableOf, maxClause, maxLiterals}
+use Rattle.book.specs.Numbers.{starts}
+use Rattle.book.specs.Text.{Token, literal, close, invalid}
+use Rattle.book.specs.Reading.{Judged, refused, accepted}
+use Rattle.book.specs.Inner.Walk.{walk}
+use Rattle.book.specs.Inner.Bodies.{Written, literalFault}
+
+-- the tests of a literal, one after the other
+module _ (variables clauses closed opened total : ℕ) (repeated : Bool) (l : ℕ) where
+  pub fault-over : variables < variableOf l → literalFault variables clauses closed opened total repeated l ≡ 5
+  unfolding literalFault
+  fault-over h = rw (lt-ltb variables (variableOf l) h)
+
+  module _ (within : variableOf l ≤ variables) where
+    pub fault-long : opened ≡ maxClause → literalFault variables clauses closed opened total repeated l ≡ 6
+    unfolding literalFault
+    fault-long e = rw (le-ltb variables (variableOf l) within, eq-eqb opened maxClause e)
+
+    module _ (short : opened ≡ maxClause → ⊥) where
+      pub fault-repeated : repeated ≡ true → literalFault variables clauses closed opened total repeated l ≡ 7
+      unfolding literalFault
+      fault-repeated e = rw (le-ltb variables (variableOf l) within, ne-eqb opened maxClause short, e)
+
+      module _ (new : repeated ≡ false) where
+        pub fault-surplus : opened ≡ 0 → clauses ≤ closed → literalFault variables clauses closed opened total repeated l ≡ 8
+        unfolding literalFault
+        fault-surplus e h =
+            rw (le-ltb variables (variableOf l) within, ne-eqb opened maxClause short, new, eq-eqb opened 0 e, le-leb clauses closed h)
+
+        wanted : (opened ≡ 0 → ⊥) ⊎ (closed < clauses) → (eqb opened 0 && leb clauses closed) ≡ false
+        wanted (inl n) = rw (ne-eqb opened 0 n)
+        wanted (inr h) = rw (lt-leb clauses closed h) (and-false (eqb opened 0))
+
+        pub fault-literals : (opened ≡ 0 → ⊥) ⊎ (closed < clauses) → total ≡ maxLiterals → literalFault variables clauses closed opened total repeated l ≡ 9
+        unfolding literalFault
+        fault-literals w e =
+            rw (le-ltb variables (variableOf l) within, ne-eqb opened maxClause short, new, wanted w, eq-eqb total maxLiterals e)
+
+        pub fault-none : (opened ≡ 0 → ⊥) ⊎ (closed < clauses) → (total ≡ maxLiterals → ⊥) → literalFault variables clauses closed opened total repeated l ≡ 0
+        unfolding literalFault
+        fault-none w n =
+            rw (le-ltb variables (variableOf l) within, ne-eqb opened maxClause short, new, wanted w, ne-eqb total maxLiterals n)
+
+-- the numbers of the faults against the answers
+chain : (over long twice surplus many : Bool) (rest : Judged) (n : ℕ)
+    → cond over 5 (cond long 6 (cond twice 7 (cond surplus 8 (cond many 9 0)))) ≡ n → (n ≡ 0 → ⊥)
+    → cond over (refused 5) (cond long (refused 6) (cond twice (refused 7) (cond surplus (refused 8) (cond many (refused 9) rest)))) ≡ refused n
+chain true long twice surplus many rest n e h = ap refused e
+chain false true twice surplus many rest n e h = ap refused e
+chain false false true surplus many rest n e h = ap refused e
+chain false false false true many rest n e h = ap refused e
+chain false false false false true rest n e h = ap refused e
+chain false false false false false rest n e h = absurd (h (sym e))
+
+chain-through : (over long twice surplus many : Bool) (rest : Judged)
+    → _≡_ {A = ℕ} (cond over 5 (cond long 6 (cond twice 7 (cond surplus 8 (cond many 9 0))))) 0
+    → (over ≡ false) × (surplus ≡ false) × (many ≡ false)
+    × (cond over (refused 5) (cond long (refused 6) (cond twice (refused 7) (cond surplus (refused 8) (cond many (refused 9) rest)))) ≡ rest)
+chain-through true long twice surplus many rest e = absurd (omega arith)
+chain-through false true twice surplus many rest e = absurd (omega arith)
+chain-through false false true surplus many rest e = absurd (omega arith)
+chain-through false false false true many rest e = absurd (omega arith)
+chain-through false false false false true rest e = absurd (omega arith)
+chain-through false false false false false rest e = (refl, refl, refl, refl)
+
+empty-length : (xs : List ℕ) → empty xs ≡ eqb (length xs) 0
+unfolding empty
+empty-length [] = sym (eq-eqb 0 0 refl)
+empty-length (x ∷ xs) = sym (ne-eqb (suc (length xs)) 0 (λ e. omega arith))
+
+-- one token of the walk
+module _ (variables clauses : ℕ) (done : List (List ℕ)) (current : List ℕ) where
+  -- the first fault of a literal here
+  abbrev pub faultHere : ℕ → ℕ
+  faultHere l =
+      literalFault variables clauses (length done) (length current) (length (flat done) + length current) (member (variableOf l) (map variableOf current)) l
+
+  pub walk-invalid : (tokens : List Token) → walk variables clauses done current (invalid ∷ tokens) ≡ refused 4
+  unfolding walk
+  walk-invalid tokens = refl
+
+  pub walk-short : (tokens : List Token) → length current ≡ 0 → walk variables clauses done current (close ∷ tokens) ≡ refused 6
+  unfolding walk
+  walk-short tokens e = rw (empty-length current, eq-eqb (length current) 0 e)
+
+  pub walk-close : (tokens : List Token) → (length current ≡ 0 → ⊥)
+      → walk variables clauses done current (close ∷ tokens) ≡ walk variables clauses (done ++ (current ∷ [])) [] tokens
+  unfolding walk
+  walk-close tokens n = rw (empty-length current, ne-eqb (length current) 0 n)
+
+  pub walk-fault : (l : ℕ) (tokens : List Token) (n : ℕ) → faultHere l ≡ n → (n ≡ 0 → ⊥) → walk variables clauses done current (literal l ∷ tokens) ≡ refused n
+  unfolding walk literalFault
+  walk-fault l tokens n e h = rw (empty-length current) (chain (ltb variables (variableOf l)) (eqb (length current) maxClause) (member (variableOf l) (map variableOf current)) (eqb (length current) 0 && leb clauses (length done)) (eqb (length (flat done) + length current) maxLiterals) (walk variables clauses done (current ++ (l ∷ [])) tokens) n e h)
+
+  pub walk-literal : (l : ℕ) (tokens : List Token) → faultHere l ≡ 0
+      → walk variables clauses done current (literal l ∷ tokens) ≡ walk variables clauses done (current ++ (l ∷ [])) tokens
+  unfolding walk literalFault
+  walk-literal l tokens e = rw (empty-length current) (chain-through (ltb variables (variableOf l)) (eqb (length current) maxClause) (member (variableOf l) (map variableOf current)) (eqb (length current) 0 && leb clauses (length done)) (eqb (length (flat done) + length current) maxLiterals) (walk variables clauses done (current ++ (l ∷ [])) tokens) e .3)
+
+  -- what a literal without a fault keeps
+  pub literal-within : (l : ℕ) → faultHere l ≡ 0
+      → (variableOf l ≤ variables) × ((eqb (length current) 0 && leb clauses (length done)) ≡ false) × (eqb (length (flat done) + length current) maxLiterals ≡ false)
+  unfolding literalFault
+  literal-within l e =
+      let facts = chain-through (ltb variables (variableOf l)) (eqb (length current) maxClause) (member (variableOf l) (map variableOf current)) (eqb (length current) 0 && leb clauses (length done)) (eqb (length (flat done) + length current) maxLiterals) (refused 0) e in
+      (ltb-false variables (variableOf l) (facts .0), facts .1, facts .2)
+
+  pub walk-open : (length current ≡ 0 → ⊥) → walk variables clauses done current [] ≡ refused 8
+  unfolding walk
+  walk-open n = rw (empty-length current, ne-eqb (length current) 0 n)
+
+  pub walk-few : (length done ≡ clauses → ⊥) → walk variables clauses done current [] ≡ refused 8
+  unfolding walk
+  walk-few n = rw (ne-eqb (length done) clauses n, and-false)
+
+  pub walk-all : length current ≡ 0 → length done ≡ clauses → walk variables clauses done current [] ≡ accepted (record { variables = variables; clauses = done })
+  unfolding walk
+  walk-all e h = rw (empty-length current, eq-eqb (length current) 0 e, eq-eqb (length done) clauses h)
+
+pub flat-more : (done : List (List ℕ)) (current : List ℕ) → flat (done ++ (current ∷ [])) ≡ flat done ++ current
+unfolding flat
+flat-more [] current = append-nil current
+flat-more (clause ∷ done) current = rw (flat-more done current) (sym (append-assoc clause (flat done) current))
+
+starts-more : (from : ℕ) (done : List (List ℕ)) (current : List ℕ)
+    → starts from (done ++ (current ∷ [])) ≡ starts from done ++ ((from + length (flat done ++ current)) ∷ [])
+unfolding starts flat
+starts-more from [] current = refl
+starts-more from (clause ∷ done) current =
+    let long : from + length clause + length (flat done ++ current) ≡ from + length ((clause ++ flat done) ++ current)
+    = rw (append-assoc clause (flat done) current, length-append clause (flat done ++ current)) (omega arith) in
+    ap (λ (xs : List ℕ). from ∷ xs) (starts-more (from + length clause) done current ∙ ap (λ (n : ℕ). starts (from + length clause) done ++ (n ∷ [])) long)
+
+pub length-more : {A : Type 0} (xs : List A) (x : A) → length (xs ++ (x ∷ [])) ≡ suc (length xs)
+length-more xs x = length-append xs (x ∷ []) ∙ omega arith
+
+-- the numbers after a store
+module _ (numbers : List ℕ) (clauses : ℕ) (done : List (List ℕ)) (current : List ℕ) (few : clauses ≤ 1500) (w : Written numbers clauses done current) where
+  pub written-literal : (total l : ℕ) → total ≡ length (flat done ++ current) → length done ≤ clauses → total < 6000
+      → Written (set numbers (clauses + 4 + total) l) clauses done (current ++ (l ∷ []))
+  written-literal total l e h small =
+      let place : clauses + 4 + total ≡ 3 + (clauses + 1 + total) = omega arith in
+      let room : total < length (drop (clauses + 4) numbers) = rw (length-drop (clauses + 4) numbers) (omega (arith, w .long)) in
+      let long : length (flat done ++ (current ++ (l ∷ []))) ≡ suc total
+      = ap length (sym (append-assoc (flat done) current (l ∷ []))) ∙ length-more (flat done ++ current) l ∙ ap suc (sym e) in
+      record {
+        long = length-set numbers (clauses + 4 + total) l ∙ w .long;
+        starts-written =
+            ap (λ (i : ℕ). take (suc (length done)) (drop 3 (set numbers i l))) place
+            ∙ ap (take (suc (length done))) (drop-set-add 3 numbers (clauses + 1 + total) l)
+            ∙ take-set-le (suc (length done)) (drop 3 numbers) (clauses + 1 + total) l (omega arith)
+            ∙ w .starts-written;
+        literals-written =
+            rw (long, drop-set-add (clauses + 4) numbers total l, take-suc-set (drop (clauses + 4) numbers) total l room, e, w .literals-written)
+            (append-assoc (flat done) current (l ∷ []));
+      }
+
+  pub written-close : (total : ℕ) → total ≡ length (flat done ++ current) → length done < clauses
+      → Written (set numbers (3 + (length done + 1)) total) clauses (done ++ (current ∷ [])) []
+  written-close total e h =
+      let place : length done + 1 ≡ suc (length done) = omega arith in
+      let room : suc (length done) < length (drop 3 numbers) = rw (length-drop 3 numbers) (omega (arith, w .long)) in
+      let none : flat (done ++ (current ∷ [])) ++ [] ≡ flat done ++ current = append-nil (flat (done ++ (current ∷ []))) ∙ flat-more done current in
+      record {
+        long = length-set numbers (3 + (length done + 1)) total ∙ w .long;
+        starts-written =
+            rw (length-more done current, place, drop-set-add 3 numbers (suc (length done)) total, take-suc-set (drop 3 numbers) (suc (length done)) total room, w .starts-written, e)
+            (sym (starts-more 0 done current ∙ ap (λ (n : ℕ). starts 0 done ++ (n ∷ [])) (omega arith)));
+        literals-written =
+            ap (λ (xs : List ℕ). take (length xs) (drop (clauses + 4) (set numbers (3 + (length done + 1)) total))) none
+            ∙ ap (take (length (flat done ++ current))) (drop-set-lt (clauses + 4) numbers (3 + (length done + 1)) total (omega arith))
+            ∙ w .literals-written
+            ∙ sym none;
+      }
+
+pub written-none : (numbers : List ℕ) (clauses : ℕ) → length numbers ≡ 7504 → Written (set numbers 3 0) clauses [] []
+unfolding starts flat
+written-none numbers clauses long =
+    let room : 0 < length (drop 3 numbers) = rw (length-drop 3 numbers) (omega arith) in
+    record {
+      long = length-set numbers 3 0 ∙ long;
+      starts-written = ap (take 1) (drop-set-add 3 numbers 0 0) ∙ take-suc-set (drop 3 numbers) 0 0 room;
+      literals-written = refl;
+    }

@@ -1,0 +1,131 @@
+-- The answer to a text is the least of its faults, by place, then by number; a text without faults is accepted, and no other.
+use Prim.Native.Nat.{ℕ, _≤_, _<_}
+use native.Mathlib.Omega.{arith}
+use mathlib.Core.Path.{_≡_, refl, sym}
+use mathlib.Core.Logic.{_⊎_, inl, inr}
+use mathlib.Core.Bool.{Bool, true, false, cond, _&&_, _||_, or-true, false≢true, true≢false}
+use mathlib.Core.List.{List, [], _∷_, List·Memᴰ, List·Memᴰ·head, List·Memᴰ·tail}
+use mathlib.Core.Option.{Option, none, some}
+use lib.Dec.{leb, ltb, eqb}
+use lib.ListN.{length}
+use borrow.Author.Tests.{ltb-true, ltb-false, leb-true, leb-false, eqb-true, eqb-false, lt-ltb, le-leb, eq-eqb, le-ltb}
+use Rattle.base.specs.Lists.{all}
+use Rattle.base.proofs.AllFlat.{all-imply}
+use Rattle.book.specs.Formula.{Formula}
+use Rattle.book.specs.Text.{linesOf}
+use Rattle.book.specs.Faults.{Fault, faultsOf}
+use Rattle.book.specs.Reading.{maxText, before, earlier, least, formulaIn, refused, accepted, judged, readText}
+use Rattle.book.proofs.Accepted.{accepted-short}
+
+-- the order of faults, by its parts
+before-parts : (a b : Fault) → before a b ≡ true → (a .place < b .place) ⊎ ((a .place ≡ b .place) × (a .number ≤ b .number))
+unfolding before
+before-parts a b h = go (ltb (a .place) (b .place)) refl (eqb (a .place) (b .place)) refl (leb (a .number) (b .number)) refl h
+  where
+    go : (l : Bool) → ltb (a .place) (b .place) ≡ l → (e : Bool) → eqb (a .place) (b .place) ≡ e → (n : Bool)
+        → leb (a .number) (b .number) ≡ n
+        → (l || (e && n)) ≡ true → (a .place < b .place) ⊎ ((a .place ≡ b .place) × (a .number ≤ b .number))
+    go true p e q n r h = inl (ltb-true (a .place) (b .place) p)
+    go false p true q true r h = inr (eqb-true (a .place) (b .place) q, leb-true (a .number) (b .number) r)
+    go false p true q false r h = absurd (false≢true h)
+    go false p false q n r h = absurd (false≢true h)
+
+before-place : (a b : Fault) → a .place < b .place → before a b ≡ true
+unfolding before
+before-place a b h = rw (lt-ltb (a .place) (b .place) h)
+
+before-number : (a b : Fault) → a .place ≡ b .place → a .number ≤ b .number → before a b ≡ true
+unfolding before
+before-number a b e h = rw (eq-eqb (a .place) (b .place) e, le-leb (a .number) (b .number) h, or-true)
+
+before-same : (a : Fault) → before a a ≡ true
+before-same a = before-number a a refl (omega arith)
+
+before-trans : (a b c : Fault) → before a b ≡ true → before b c ≡ true → before a c ≡ true
+before-trans a b c h k = go (before-parts a b h) (before-parts b c k)
+  where
+    go : (a .place < b .place) ⊎ ((a .place ≡ b .place) × (a .number ≤ b .number))
+        → (b .place < c .place) ⊎ ((b .place ≡ c .place) × (b .number ≤ c .number))
+        → before a c ≡ true
+    go (inl p) (inl q) = before-place a c (omega arith)
+    go (inl p) (inr q) = before-place a c (omega arith)
+    go (inr p) (inl q) = before-place a c (omega arith)
+    go (inr p) (inr q) = before-number a c (omega arith) (omega arith)
+
+before-other : (a b : Fault) → before a b ≡ false → before b a ≡ true
+unfolding before
+before-other a b h = go (ltb (a .place) (b .place)) refl (eqb (a .place) (b .place)) refl (leb (a .number) (b .number)) refl h
+  where
+    go : (l : Bool) → ltb (a .place) (b .place) ≡ l → (e : Bool) → eqb (a .place) (b .place) ≡ e → (n : Bool)
+        → leb (a .number) (b .number) ≡ n
+        → (l || (e && n)) ≡ false → before b a ≡ true
+    go true p e q n r h = absurd (true≢false h)
+    go false p true q true r h = absurd (true≢false h)
+    go false p true q false r h =
+        before-number b a (sym (eqb-true (a .place) (b .place) q)) (omega (arith, leb-false (a .number) (b .number) r))
+    go false p false q n r h = before-place b a (omega (arith, ltb-false (a .place) (b .place) p, eqb-false (a .place) (b .place) q))
+
+-- the least fault is one of them, and before every other
+pub record Least (faults : List Fault) (f : Fault) : Type 0 where
+  pub one-of-them : List·Memᴰ f faults
+  pub before-all : all (before f) faults ≡ true
+
+-- there is none exactly where there is no fault
+Found : List Fault → Option Fault → Type 0
+Found faults none = faults ≡ []
+Found faults (some f) = Least faults f
+
+least-found : (faults : List Fault) → Found faults (least faults)
+unfolding least Found earlier all
+least-found [] = refl
+least-found (a ∷ faults) = go (least faults) (least-found faults)
+  where
+    pick : (m : Fault) → Least faults m → (b : Bool) → before a m ≡ b → Least (a ∷ faults) (cond b a m)
+    pick m l true e = record {
+      one-of-them = List·Memᴰ·head refl;
+      before-all = rw (before-same a) (all-imply (before m) (before a) (λ g h. before-trans a m g e h) faults (l .before-all));
+    }
+    pick m l false e = record { one-of-them = List·Memᴰ·tail (l .one-of-them); before-all = rw (before-other a m e) (l .before-all) }
+
+    go : (found : Option Fault) → Found faults found → Found (a ∷ faults) (earlier a found)
+    go none e = record { one-of-them = List·Memᴰ·head refl; before-all = rw (e, before-same a) }
+    go (some m) l = pick m l (before a m) refl
+
+-- A text of at most 60,000 bytes is refused by the number of its least fault.
+pub answer-is-least : (text : List ℕ) (n : ℕ) → length text ≤ maxText → readText text ≡ refused n
+    → (f : Fault) × Least (faultsOf (length text) (linesOf text)) f × (f .number ≡ n)
+unfolding readText judged Found
+answer-is-least text n short h =
+    go (least (faultsOf (length text) (linesOf text))) (least-found (faultsOf (length text) (linesOf text)))
+    (rw (le-ltb maxText (length text) short) at h)
+  where
+    go : (found : Option Fault) → Found (faultsOf (length text) (linesOf text)) found
+        → judged found (formulaIn (linesOf text)) ≡ refused n
+        → (f : Fault) × Least (faultsOf (length text) (linesOf text)) f × (f .number ≡ n)
+    go none e h = let z : _≡_ {A = ℕ} 0 1 = cc in absurd (omega arith)
+    go (some f) l h = (f, l, cc)
+
+-- A text that is accepted has no fault, and is at most 60,000 bytes long.
+pub accepted-no-fault : (text : List ℕ) (formula : Formula) → readText text ≡ accepted formula
+    → faultsOf (length text) (linesOf text) ≡ []
+unfolding readText judged Found
+accepted-no-fault text formula h =
+    go (least (faultsOf (length text) (linesOf text))) (least-found (faultsOf (length text) (linesOf text)))
+    (rw (accepted-short text formula h) at h)
+  where
+    go : (found : Option Fault) → Found (faultsOf (length text) (linesOf text)) found
+        → judged found (formulaIn (linesOf text)) ≡ accepted formula
+        → faultsOf (length text) (linesOf text) ≡ []
+    go none e h = e
+    go (some f) l h = let z : _≡_ {A = ℕ} 0 1 = cc in absurd (omega arith)
+
+-- A text without faults is accepted, as the formula that it writes.
+pub no-fault-accepted : (text : List ℕ) → length text ≤ maxText → faultsOf (length text) (linesOf text) ≡ []
+    → readText text ≡ accepted (formulaIn (linesOf text))
+unfolding readText least judged
+no-fault-accepted text short h = rw (le-ltb maxText (length text) short, h)
+
+-- A longer text is refused by number 1.
+pub too-long : (text : List ℕ) → maxText < length text → readText text ≡ refused 1
+unfolding readText
+too-long text h = rw (lt-ltb maxText (length text) h)

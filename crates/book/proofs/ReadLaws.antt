@@ -1,0 +1,56 @@
+-- The answer of `read` and the lent numbers afterwards, case by case.
+use Prim.Native.Nat.{ℕ, _+_, _≤_, _<_}
+use mathlib.Core.Path.{_≡_, refl, ap, sym, _∙_}
+use mathlib.Core.Bool.{false}
+use mathlib.Core.List.{List, _++_}
+use native.Mathlib.Omega.{arith}
+use borrow.Author.Tests.{lt-ltb, le-ltb}
+use lib.ListN.{length, take, drop}
+use Rattle.book.specs.Formula.{Formula, literals}
+use Rattle.book.specs.Numbers.{numbersOf}
+use Rattle.book.specs.Text.{linesOf}
+use Rattle.book.specs.Reading.{Judged, refused, accepted, readText, maxText}
+use Rattle.book.specs.Answer.{answerTo, numbersAfter}
+use Rattle.book.specs.Inner.Walk.{walkLines}
+use Rattle.book.specs.Inner.Bodies.{Read}
+use Rattle.book.specs.declared.Reading.{Reading}
+use Rattle.book.specs.declared.Reading.the-variants.{Book, Refused}
+use Rattle.book.proofs.LeastFault.{read-is-walk}
+use Rattle.book.proofs.NumberLaws.{length-numbers}
+
+-- what is promised of an answer and of the lent numbers
+abbrev pub Answered : Judged → List ℕ → Reading → List ℕ → Type 0
+Answered judged lent answer after = (answer ≡ answerTo judged (length lent)) × (after ≡ numbersAfter judged lent)
+
+pub answer-refused : (judged : Judged) (lent : List ℕ) (number : ℕ) → judged ≡ refused number → Answered judged lent (Refused number) lent
+answer-refused judged lent number e = rw e (refl, refl)
+
+module _ (judged : Judged) (formula : Formula) (is : judged ≡ accepted formula) (lent : List ℕ) where
+  pub answer-short : length lent < length (numbersOf formula) → Answered judged lent (Refused 10) lent
+  answer-short h = rw (is, lt-ltb (length lent) (length (numbersOf formula)) h) (refl, refl)
+
+  pub answer-book : length (numbersOf formula) ≤ length lent
+      → Answered judged lent
+      (Book (formula .variables) (length (formula .clauses)) (length (literals formula)))
+      (numbersOf formula ++ drop (length (numbersOf formula)) lent)
+  answer-book h = rw (is, le-ltb (length lent) (length (numbersOf formula)) h) (refl, refl)
+
+-- a text that is not too long is what the walk says
+pub read-walked : (text : List ℕ) (judged : Judged) → length text ≤ maxText → walkLines (linesOf text) ≡ judged → readText text ≡ judged
+read-walked text judged h e = read-is-walk text (le-ltb maxText (length text) h) ∙ e
+
+module _ (text numbers : List ℕ) (variables clauses total : ℕ) (r : Read text numbers variables clauses total) (short : length text ≤ maxText) (lent : List ℕ) where
+  pub length-read : length (numbersOf (r .formula)) ≡ clauses + total + 4
+  length-read = length-numbers (r .formula) ∙ rw (r .same-clauses, r .same-literals)
+
+  is-read : readText text ≡ accepted (r .formula)
+  is-read = read-walked text (accepted (r .formula)) short (r .is-accepted)
+
+  pub read-short : length lent < clauses + total + 4 → Answered (readText text) lent (Refused 10) lent
+  read-short h = answer-short (readText text) (r .formula) is-read lent (omega (arith, length-read))
+
+  pub read-book : clauses + total + 4 ≤ length lent
+      → Answered (readText text) lent (Book variables clauses total) (take (clauses + total + 4) numbers ++ drop (clauses + total + 4) lent)
+  read-book h =
+      rw (r .front, ← length-read, ← (r .same-variables), ← (r .same-clauses), ← (r .same-literals))
+      (answer-book (readText text) (r .formula) is-read lent (omega (arith, length-read)))

@@ -1,0 +1,117 @@
+-- The form of book numbers taken apart: what well-formed numbers are, and that they are the numbers of a sound formula.
+use Prim.Native.Nat.{ℕ, _+_, _≤_, _<_}
+use mathlib.Core.Bool.{true, false}
+use mathlib.Core.List.{List, []}
+use mathlib.Core.Path.{_≡_, sym, _∙_, ap}
+use native.Mathlib.Omega.{arith}
+use borrow.Author.Tests.{leb-true, le-leb, eqb-true, eq-eqb}
+use lib.Dec.{leb, eqb}
+use lib.ListN.{length, take}
+use Rattle.base.specs.Lists.{all, flat}
+use Rattle.base.proofs.Bools.{and-five, and-last, refuted}
+use Rattle.base.proofs.Lists.{all-at}
+use Rattle.book.specs.Formula.{soundClause, sound, maxVariables, maxClauses, maxLiterals}
+use Rattle.book.specs.Numbers.{variablesOf, clausesOf, literalsOf, startOf, clauseAt, clausesFrom, formulaOf, numbersOf, rising, wellFormed}
+use Rattle.book.specs.Inner.Form.{Parted}
+use Rattle.book.proofs.PartLaws.{length-clauses, clause-of-formula, length-literals, numbers-parted}
+
+-- V, C and L within their limits
+pub record Limited (numbers : List ℕ) : Type 0 where
+  pub some-variables : 1 ≤ variablesOf numbers
+  pub variables : variablesOf numbers ≤ 500
+  pub clauses : clausesOf numbers ≤ 1500
+  pub literals : literalsOf numbers ≤ 6000
+
+module _ (numbers : List ℕ) where
+  -- of parted numbers within the limits the clauses decide
+  pub clauses-decide : Parted numbers → Limited numbers
+      → wellFormed numbers ≡ all (soundClause (variablesOf numbers)) (clausesFrom numbers 0 (clausesOf numbers))
+  unfolding wellFormed sound
+  clauses-decide parted limited =
+      let few : length (clausesFrom numbers 0 (clausesOf numbers)) ≤ maxClauses =
+      rw (length-clauses numbers 0 (clausesOf numbers)) (limited .clauses) in
+      let short : length (flat (clausesFrom numbers 0 (clausesOf numbers))) ≤ maxLiterals =
+      rw (length-literals numbers parted) (limited .literals) in
+      and-last
+      (sound (formulaOf numbers))
+      (le-leb _ _ (parted .long))
+      (eq-eqb _ _ (parted .first))
+      (eq-eqb _ _ (parted .last))
+      (parted .rises)
+      ∙ and-last
+      (all (soundClause (variablesOf numbers)) (clausesFrom numbers 0 (clausesOf numbers)))
+      (le-leb _ _ (limited .some-variables))
+      (le-leb _ _ (limited .variables))
+      (le-leb _ _ few)
+      (le-leb _ _ short)
+
+  module _ (well : wellFormed numbers ≡ true) where
+    parts : (leb (clausesOf numbers + literalsOf numbers + 4) (length numbers) ≡ true)
+        × (eqb (startOf numbers 0) 0 ≡ true)
+        × (eqb (startOf numbers (clausesOf numbers)) (literalsOf numbers) ≡ true)
+        × (rising numbers 0 (clausesOf numbers) ≡ true)
+        × (sound (formulaOf numbers) ≡ true)
+    unfolding wellFormed
+    parts =
+        and-five
+        (leb (clausesOf numbers + literalsOf numbers + 4) (length numbers))
+        (eqb (startOf numbers 0) 0)
+        (eqb (startOf numbers (clausesOf numbers)) (literalsOf numbers))
+        (rising numbers 0 (clausesOf numbers))
+        (sound (formulaOf numbers))
+        well
+
+    pub well-formed-parted : Parted numbers
+    well-formed-parted =
+        record {
+          long = leb-true _ _ (parts .0);
+          first = eqb-true _ _ (parts .1);
+          last = eqb-true _ _ (parts .2);
+          rises = parts .3;
+        }
+
+    -- well-formed numbers hold a sound formula
+    pub well-formed-sound : sound (formulaOf numbers) ≡ true
+    well-formed-sound = parts .4
+
+    limits : (leb 1 (variablesOf numbers) ≡ true)
+        × (leb (variablesOf numbers) maxVariables ≡ true)
+        × (leb (length (clausesFrom numbers 0 (clausesOf numbers))) maxClauses ≡ true)
+        × (leb (length (flat (clausesFrom numbers 0 (clausesOf numbers)))) maxLiterals ≡ true)
+        × (all (soundClause (variablesOf numbers)) (clausesFrom numbers 0 (clausesOf numbers)) ≡ true)
+    unfolding sound
+    limits =
+        and-five
+        (leb 1 (variablesOf numbers))
+        (leb (variablesOf numbers) maxVariables)
+        (leb (length (clausesFrom numbers 0 (clausesOf numbers))) maxClauses)
+        (leb (length (flat (clausesFrom numbers 0 (clausesOf numbers)))) maxLiterals)
+        (all (soundClause (variablesOf numbers)) (clausesFrom numbers 0 (clausesOf numbers)))
+        well-formed-sound
+
+    pub well-formed-limited : Limited numbers
+    well-formed-limited =
+        let few : length (clausesFrom numbers 0 (clausesOf numbers)) ≤ maxClauses = leb-true _ _ (limits .2) in
+        let short : length (flat (clausesFrom numbers 0 (clausesOf numbers))) ≤ maxLiterals = leb-true _ _ (limits .3) in
+        record {
+          some-variables = leb-true _ _ (limits .0);
+          variables = leb-true _ _ (limits .1);
+          clauses = omega (arith, length-clauses numbers 0 (clausesOf numbers));
+          literals = omega (arith, length-literals numbers well-formed-parted);
+        }
+
+    -- each clause of well-formed numbers is sound
+    pub well-formed-clause : (c : ℕ) → c < clausesOf numbers → soundClause (variablesOf numbers) (clauseAt numbers c) ≡ true
+    well-formed-clause c h =
+        let inside : c < length (clausesFrom numbers 0 (clausesOf numbers)) =
+        omega (arith, length-clauses numbers 0 (clausesOf numbers)) in
+        ap (soundClause (variablesOf numbers)) (sym (clause-of-formula numbers c h))
+        ∙ all-at (soundClause (variablesOf numbers)) (clausesFrom numbers 0 (clausesOf numbers)) [] (limits .4) c inside
+
+    -- well-formed numbers up to C + L + 4 are those of the formula that they hold
+    pub well-formed-numbers : take (clausesOf numbers + literalsOf numbers + 4) numbers ≡ numbersOf (formulaOf numbers)
+    well-formed-numbers = numbers-parted numbers well-formed-parted
+
+  -- numbers that are not parted, or beyond the limits, are not well formed
+  pub not-well-formed : (Parted numbers → Limited numbers → ⊥) → wellFormed numbers ≡ false
+  not-well-formed never = refuted _ λ well. never (well-formed-parted well) (well-formed-limited well)

@@ -1,0 +1,126 @@
+-- `book::form::clause_sound` meets its contract. The loop's invariant: the literals before i are passed. The measure is how many are left.
+-- Assumes nothing.
+use Prim.Native.Nat.{_-_, _/_, _≤_}
+use mathlib.Core.Path.{sym, _∙_}
+use native.Mathlib.Omega.{arith}
+use lib.ListN.{length}
+use Rattle.book.proofs.ClauseLaws.{Passed, passed-none, passed-more, passed-all, refuse-empty, refuse-long, refuse-low, refuse-high, refuse-repeated}
+use Rattle.book.proofs.MarkLaws.{marked-more}
+use Rattle.book.proofs.form.clause_sound.Statement.{statement}
+use Rattle.book.proofs.form.clause_sound.Tie as tie
+
+abbrev Inv-loop : tie.InvT-loop
+Inv-loop clause variables tag marks₀ i₀ marks i =
+    (1 ≤ length clause) × (length clause ≤ 255) × Passed variables tag clause marks i
+
+abbrev μ-loop : tie.MeasureT-loop
+μ-loop clause variables tag marks₀ i₀ marks i = length clause - i
+
+returns : tie.Need-returns Inv-loop μ-loop
+returns c = (sym (refuse-empty _ _ (omega arith)), c .before .before .pre .1 .bounded)
+
+returns-2 : tie.Need-returns-2 Inv-loop μ-loop
+returns-2 c = (sym (refuse-long _ _ (omega arith)), c .before .before .before .pre .1 .bounded)
+
+loop-holds : tie.Need-loop-holds Inv-loop μ-loop
+loop-holds c = (omega arith, omega arith, passed-none _ _ _ _ (c .before .before .before .pre .1))
+
+mul-wide : tie.Need-mul-wide Inv-loop μ-loop
+mul-wide c = omega arith
+
+shared-slice-read-wide : tie.Need-shared-slice-read-wide Inv-loop μ-loop
+shared-slice-read-wide c = omega arith
+
+wide-requires : tie.Need-wide-requires Inv-loop μ-loop
+wide-requires c κs = tt
+
+returns-3 : tie.Need-returns-3 Inv-loop μ-loop
+returns-3 c = (
+  sym (refuse-low _ _ (c .before .before .before .before .loop .i) (omega arith) (omega arith)),
+  c .before .before .before .before .loop .inv .2 .marked .bounded,
+)
+
+mul-if4 : tie.Need-mul-if4 Inv-loop μ-loop
+mul-if4 c = omega arith
+
+add-if4 : tie.Need-add-if4 Inv-loop μ-loop
+add-if4 c = omega arith
+
+returns-4 : tie.Need-returns-4 Inv-loop μ-loop
+returns-4 c = (
+  sym (refuse-high _ _ (c .before .before .before .before .before .loop .i) (omega arith) (omega arith)),
+  c .before .before .before .before .before .loop .inv .2 .marked .bounded,
+)
+
+mark-requires : tie.Need-mark-requires Inv-loop μ-loop
+mark-requires c κs = omega arith
+
+returns-5 : tie.Need-returns-5 Inv-loop μ-loop
+returns-5 c = (
+  sym
+      (refuse-repeated _ _ _ _ _
+      (c .before .before .before .before .before .wide .result)
+      (c .before .before .before .before .before .before .before .before .loop .inv .2)
+      (omega arith)
+      (c .before .before .before .before .before .wide .ensures .0)
+      (omega arith)
+      (sym (c .before .mark .ensures .0) ∙ c .if5 .taken)),
+  rw (c .before .mark .ensures .1)
+      (marked-more _ _ _ (c .before .before .before .before .before .wide .result / 2) (omega arith) (c .before .before .before .before .before .before .before .before .loop .inv .2 .marked) .bounded),
+)
+
+add-i : tie.Need-add-i Inv-loop μ-loop
+add-i c = omega arith
+
+loop-less : tie.Need-loop-less Inv-loop μ-loop
+loop-less c = omega arith
+
+loop-again : tie.Need-loop-again Inv-loop μ-loop
+loop-again c = (
+  omega arith,
+  omega arith,
+  rw (c .before .mark .ensures .1)
+      (passed-more _ _ _ _ _
+      (c .before .before .before .before .before .wide .result)
+      (c .before .before .before .before .before .before .before .before .loop .inv .2)
+      (omega arith)
+      (c .before .before .before .before .before .wide .ensures .0)
+      (omega arith)
+      (omega arith)
+      (omega arith)
+      (sym (c .before .mark .ensures .0) ∙ c .if5 .left)),
+)
+
+returns-6 : tie.Need-returns-6 Inv-loop μ-loop
+returns-6 c = (
+  sym
+      (passed-all _ _ _ _ _
+      (c .before .loop .inv .2)
+      (omega arith)
+      (omega arith)
+      (omega arith)),
+  c .before .loop .inv .2 .marked .bounded,
+)
+
+pub clause-sound-spec : {M : Type 1} → statement M
+clause-sound-spec =
+    tie.close
+    (tie.spec
+    Inv-loop
+    μ-loop
+    returns
+    returns-2
+    loop-holds
+    mul-wide
+    shared-slice-read-wide
+    wide-requires
+    returns-3
+    mul-if4
+    add-if4
+    returns-4
+    mark-requires
+    returns-5
+    add-i
+    loop-less
+    loop-again
+    returns-6)

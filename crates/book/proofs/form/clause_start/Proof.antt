@@ -1,0 +1,44 @@
+-- `book::form::clause_start` meets its contract: a clause number from the length on has no start. Assumes nothing.
+use Prim.Native.Nat.{_+_}
+use mathlib.Core.Path.{_≡_}
+use native.Mathlib.Omega.{arith}
+use lib.ListN.{getD, List·getD-eq-default}
+use borrow.Author.Needs.{needs}
+use Rattle.book.proofs.form.clause_start.Statement.{statement}
+use Rattle.book.proofs.form.clause_start.Tie as tie
+
+number-requires : tie.Need-number-requires
+number-requires c κs = search needs
+
+add-literals : tie.Need-add-literals
+add-literals c = search needs
+
+add-number : tie.Need-add-number
+add-number c = search needs
+
+number-requires-2 : tie.Need-number-requires-2
+number-requires-2 c κs = search needs
+
+add-result : tie.Need-add-result
+add-result c = search needs
+
+returns : tie.Need-returns
+returns c = search needs
+
+returns-2 : tie.Need-returns-2
+returns-2 c =
+    let none : getD (c .before .before .before .args .book .now) (3 + c .before .before .before .args .c) 0 ≡ 0 =
+    List·getD-eq-default (c .before .before .before .args .book .now) 0 (omega arith) in
+    omega arith
+
+pub clause-start-spec : {M : Type 1} → statement M
+clause-start-spec =
+    tie.close
+    (tie.spec
+    number-requires
+    add-literals
+    add-number
+    number-requires-2
+    add-result
+    returns
+    returns-2)

@@ -1,0 +1,68 @@
+-- `copy` meets its contract: the first i numbers are copied. Assumes nothing.
+use Prim.Native.Nat.{_-_, _≤_}
+use mathlib.Core.Path.{_≡_, ap, _∙_}
+use mathlib.Core.List.{List, _++_}
+use Prim.Native.Nat.{ℕ}
+use native.Mathlib.Omega.{arith}
+use borrow.Author.Needs.{needs}
+use lib.ListN.{length, take, drop}
+use Rattle.base.proofs.Copies.{Copied, copied-none, copied-more, length-copied}
+use Rattle.book.proofs.parse.copy.Statement.{statement}
+use Rattle.book.proofs.parse.copy.Tie as tie
+use Rattle.book.proofs.parse.copy.Reads as reads
+use Rattle.book.proofs.parse.copy.Lts as lts
+
+abbrev Inv-loop : tie.InvT-loop
+Inv-loop numbers n out₀ i₀ out i = Copied numbers out₀ out i × (i ≤ n)
+
+abbrev μ-loop : tie.MeasureT-loop
+μ-loop numbers n out₀ i₀ out i = n - i
+
+loop-holds : tie.Need-loop-holds Inv-loop μ-loop
+loop-holds c = (copied-none (c .args .numbers .now) (c .args .out .now), omega arith)
+
+mul-out : tie.Need-mul-out Inv-loop μ-loop
+mul-out c = omega (arith, c .before .before .pre .0, c .before .before .good)
+
+shared-slice-read-out : tie.Need-shared-slice-read-out Inv-loop μ-loop
+shared-slice-read-out c = search needs
+
+mul-out-2 : tie.Need-mul-out-2 Inv-loop μ-loop
+mul-out-2 c = omega (arith, c .before .before .before .pre .0, c .before .before .before .good)
+
+slice-write-out : tie.Need-slice-write-out Inv-loop μ-loop
+slice-write-out c = omega (arith, length-copied (c .before .before .before .args .numbers .now) (c .before .before .before .args .out .now) _ _ (c .before .before .loop .inv .0))
+
+add-i : tie.Need-add-i Inv-loop μ-loop
+add-i c = search needs
+
+loop-less : tie.Need-loop-less Inv-loop μ-loop
+loop-less c = search needs
+
+loop-again : tie.Need-loop-again Inv-loop μ-loop
+loop-again c = (copied-more (c .before .before .before .args .numbers .now) (c .before .before .before .args .out .now) _ (c .before .before .loop .i) (c .before .before .loop .inv .0) (search needs) (search needs), search needs)
+
+same-length : tie.Need-same-length Inv-loop μ-loop
+same-length c = length-copied (c .before .before .args .numbers .now) (c .before .before .args .out .now) _ _ (c .before .loop .inv .0)
+
+returns : tie.Need-returns Inv-loop μ-loop
+returns c =
+    let all-copied : c .before .loop .i ≡ c .before .before .args .n = omega arith in
+    c .before .loop .inv .0 .is ∙ ap (λ (k : ℕ). take k (c .before .before .args .numbers .now) ++ drop k (c .before .before .args .out .now)) all-copied
+
+pub copy-spec : {M : Type 1} → statement M
+copy-spec =
+    tie.close
+    (tie.spec
+    Inv-loop
+    μ-loop
+    loop-holds
+    mul-out
+    shared-slice-read-out
+    mul-out-2
+    slice-write-out
+    add-i
+    loop-less
+    loop-again
+    same-length
+    returns)

@@ -1,0 +1,125 @@
+-- `parse` meets its contract: header, limits, clauses. Assumes nothing.
+use Prim.Native.Nat.{_≤_}
+use mathlib.Core.Path.{_≡_, refl, ap, subst, sym, _∙_}
+use mathlib.Core.List.{[]}
+use native.Mathlib.Omega.{arith}
+use lib.ListN.{length, length-set}
+use Rattle.book.specs.Text.{header, linesOf}
+use Rattle.book.specs.Inner.Walk.{walk, walkUnder, walkLines}
+use Rattle.book.specs.Inner.Steps.{tokensHere}
+use Rattle.book.specs.Inner.Heads.{HeaderSays}
+use Rattle.book.specs.Inner.Bodies.{BodySays}
+use Rattle.book.proofs.ParseLaws.{text-start, outside-none, outside-variables, outside-clauses, within-limits, header-refused, header-taken, written-front}
+use borrow.Author.Needs.{needs}
+use Rattle.book.proofs.parse.parse.Statement.{statement}
+use Rattle.book.proofs.parse.parse.Tie as tie
+use Rattle.book.proofs.parse.parse.Reads as reads
+use Rattle.book.proofs.parse.parse.Lts as lts
+use Rattle.book.proofs.body.clauses_at.Reads as clauses-at-reads
+use Rattle.book.proofs.form.wide.Reads as wide-reads
+use Rattle.book.proofs.cursor.line_start.Reads as line-start-reads
+use Rattle.book.proofs.header.header_at.Reads as header-at-reads
+
+-- the answer to the text, from its header on
+headed : (c : tie.After-variables) → (c .variables .given .0 .1 .1 .0 .at ≤ length (c .before .before .before .before .before .args .text .now))
+    × (walkLines (linesOf (c .before .before .before .before .before .args .text .now)) ≡ walkUnder (header (c .variables .given .0 .0) (c .variables .given .0 .1 .0)) (tokensHere (c .before .before .before .before .before .args .text .now) (c .variables .given .0 .1 .1 .0 .at)))
+headed c =
+    let says = subst (HeaderSays (c .before .before .before .before .before .args .text .now) (c .before .before .before .line-start .result)) (c .variables .given .1) (c .before .before .header-at .ensures) in
+    (says .0, text-start (c .before .before .before .before .before .args .text .now) (c .before .before .before .line-start .result) (c .before .before .before .line-start .ensures) ∙ says .1)
+
+-- within the limits the clauses decide
+limited : (c : tie.After-wide2) → walkLines (linesOf (c .before .before .before .before .before .before .before .before .before .before .before .args .text .now))
+    ≡ walk (c .before .wide .result) (c .wide2 .result) [] [] (tokensHere (c .before .before .before .before .before .before .before .before .before .before .before .args .text .now) (c .before .before .before .before .before .before .variables .given .0 .1 .1 .0 .at))
+limited c =
+    rw (c .before .wide .ensures .0, c .wide2 .ensures .0)
+    (headed (c .before .before .before .before .before .before) .1
+    ∙ header-taken _ _ _ (within-limits _ _ (c .before .before .before .before .if1 .left) (c .before .before .before .if2 .left) (c .before .before .if3 .left)))
+
+line-start-requires : tie.Need-line-start-requires
+line-start-requires c κs = search needs
+
+header-at-requires : tie.Need-header-at-requires
+header-at-requires c κs = search needs
+
+enum-known-variables : tie.Need-enum-known-variables
+enum-known-variables c = search needs
+
+enum-told : tie.Need-enum-told
+enum-told c = search needs
+
+returns : tie.Need-returns
+returns c = text-start (c .before .before .before .before .before .args .text .now) _ (c .before .before .before .line-start .ensures) ∙ subst (HeaderSays (c .before .before .before .before .before .args .text .now) (c .before .before .before .line-start .result)) (c .enum-told .given .1) (c .before .before .header-at .ensures)
+
+returns-2 : tie.Need-returns-2
+returns-2 c = headed (c .before .before) .1 ∙ header-refused _ _ _ (outside-none _ _ (c .if1 .taken))
+
+returns-3 : tie.Need-returns-3
+returns-3 c = headed (c .before .before .before) .1 ∙ header-refused _ _ _ (outside-variables _ _ (c .if2 .taken))
+
+returns-4 : tie.Need-returns-4
+returns-4 c = headed (c .before .before .before .before) .1 ∙ header-refused _ _ _ (outside-clauses _ _ (c .if3 .taken))
+
+wide-requires : tie.Need-wide-requires
+wide-requires c κs = search needs
+
+wide-requires-2 : tie.Need-wide-requires-2
+wide-requires-2 c κs = search needs
+
+clauses-at-requires : tie.Need-clauses-at-requires
+clauses-at-requires c κs = (headed (c .before .before .before .before .before .before .before) .0, omega (arith, c .before .before .wide .ensures .0, c .before .before .before .before .if2 .left), omega (arith, c .before .wide2 .ensures .0, c .before .before .before .if3 .left), c .before .before .before .before .before .before .before .before .before .before .before .before .pre)
+
+enum-known-number : tie.Need-enum-known-number
+enum-known-number c = search needs
+
+enum-known-literals : tie.Need-enum-known-literals
+enum-known-literals c = search needs
+
+element-write-numbers : tie.Need-element-write-numbers
+element-write-numbers c = search needs
+
+element-write-numbers-2 : tie.Need-element-write-numbers-2
+element-write-numbers-2 c = search needs
+
+element-write-numbers-3 : tie.Need-element-write-numbers-3
+element-write-numbers-3 c = search needs
+
+returns-5 : tie.Need-returns-5
+returns-5 c = limited (c .before .before .before .before .before) ∙ (subst (BodySays (c .before .before .before .before .before .before .before .before .before .before .before .before .before .before .before .before .args .text .now) (c .before .before .before .before .before .before .before .before .before .before .before .variables .given .0 .1 .1 .0 .at) (c .before .before .before .before .before .before .wide .result) (c .before .before .before .before .before .wide2 .result) (c .before .before .before .clauses-at .last .1 .1 .1 .1 .0)) (c .before .number .given .1) (c .before .before .before .clauses-at .ensures))
+
+returns-6 : tie.Need-returns-6
+returns-6 c =
+    let read = (subst (BodySays (c .before .before .before .before .before .before .before .before .before .before .before .before .before .before .before .before .args .text .now) (c .before .before .before .before .before .before .before .before .before .before .before .variables .given .0 .1 .1 .0 .at) (c .before .before .before .before .before .before .wide .result) (c .before .before .before .before .before .wide2 .result) (c .before .before .before .clauses-at .last .1 .1 .1 .1 .0)) (c .before .literals .given .1) (c .before .before .before .clauses-at .ensures)) in
+    record {
+      formula = record { variables = c .before .before .before .before .before .before .wide .result; clauses = read .0 };
+      is-accepted = limited (c .before .before .before .before .before) ∙ read .1;
+      same-variables = c .before .before .before .before .before .before .wide .ensures .0;
+      same-clauses = read .2 ∙ c .before .before .before .before .before .wide2 .ensures .0;
+      same-literals = read .3;
+      few-clauses = c .before .before .before .before .before .before .before .if3 .left;
+      few-literals = read .4;
+      long = simp length-set (read .5 .long);
+      front = rw (sym (c .before .before .before .before .before .wide2 .ensures .0), sym (c .before .before .before .before .before .before .wide .ensures .0)) (written-front _ (c .before .before .before .before .before .before .wide .result) (c .before .before .before .before .before .wide2 .result) _ (read .0) (read .5) (read .2) (read .3));
+    }
+
+pub parse-spec : {M : Type 1} → statement M
+parse-spec =
+    tie.close
+    (tie.spec
+    line-start-requires
+    header-at-requires
+    enum-known-variables
+    enum-told
+    returns
+    returns-2
+    returns-3
+    returns-4
+    wide-requires
+    wide-requires-2
+    clauses-at-requires
+    enum-known-number
+    enum-known-literals
+    element-write-numbers
+    element-write-numbers-2
+    element-write-numbers-3
+    returns-5
+    returns-6)

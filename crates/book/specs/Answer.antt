@@ -1,0 +1,25 @@
+-- The answer of `read`, and the lent numbers afterwards: document 01's numbers and values for each case.
+use Prim.Native.Nat.{ℕ}
+use mathlib.Core.Bool.{cond}
+use mathlib.Core.List.{List, _++_}
+use lib.Dec.{ltb}
+use lib.ListN.{length, drop}
+use Rattle.book.specs.Formula.{Formula, literals}
+use Rattle.book.specs.Numbers.{numbersOf}
+use Rattle.book.specs.Reading.{Judged, refused, accepted}
+use Rattle.book.specs.declared.Reading.{Reading}
+use Rattle.book.specs.declared.Reading.the-variants.{Book, Refused}
+
+-- A text that is accepted otherwise is refused by 10 where the lent numbers are too few; else the answer is V, C and L.
+abbrev pub answerTo : Judged → ℕ → Reading
+answerTo (refused number) room = Refused number
+answerTo (accepted formula) room =
+    cond (ltb room (length (numbersOf formula)))
+    (Refused 10)
+    (Book (formula .variables) (length (formula .clauses)) (length (literals formula)))
+
+-- The book numbers, followed by what lay behind them; a refusal changes nothing.
+abbrev pub numbersAfter : Judged → List ℕ → List ℕ
+numbersAfter (refused number) lent = lent
+numbersAfter (accepted formula) lent =
+    cond (ltb (length lent) (length (numbersOf formula))) lent (numbersOf formula ++ drop (length (numbersOf formula)) lent)

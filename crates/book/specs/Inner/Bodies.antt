@@ -1,0 +1,58 @@
+-- What the contracts of the private functions that read the clauses say.
+use Prim.Native.Nat.{ℕ, suc, _+_, _≤_, _<_}
+use mathlib.Core.Path.{_≡_}
+use mathlib.Core.Bool.{Bool, cond, _&&_}
+use mathlib.Core.List.{List, [], _∷_, _++_}
+use lib.Dec.{leb, ltb, eqb}
+use lib.ListN.{length, take, drop}
+use Rattle.base.specs.Lists.{flat}
+use Rattle.book.specs.Formula.{Formula, literals, variableOf, maxClause, maxLiterals}
+use Rattle.book.specs.Numbers.{starts, numbersOf}
+use Rattle.book.specs.Text.{linesOf}
+use Rattle.book.specs.Reading.{refused, accepted}
+use Rattle.book.specs.Inner.Walk.{walk, walkLines}
+use Rattle.book.specs.Inner.Steps.{tokensHere}
+use Rattle.book.specs.declared.body.Body.{Body}
+use Rattle.book.specs.declared.body.Body.the-variants as b
+use Rattle.book.specs.declared.parse.Parsed.{Parsed}
+use Rattle.book.specs.declared.parse.Parsed.the-variants as p
+
+-- the numbers hold the starts of the closed clauses and of the open one, and the literals of both
+pub record Written (numbers : List ℕ) (clauses : ℕ) (done : List (List ℕ)) (current : List ℕ) : Type 0 where
+  pub long : length numbers ≡ 7504
+  pub starts-written : take (suc (length done)) (drop 3 numbers) ≡ starts 0 done
+  pub literals-written : take (length (flat done ++ current)) (drop (clauses + 4) numbers) ≡ flat done ++ current
+
+-- the number of the first fault of a literal, 0 where it has none: with so many clauses closed, literals in the open one, literals in all
+unfoldable pub literalFault : ℕ → ℕ → ℕ → ℕ → ℕ → Bool → ℕ → ℕ
+literalFault variables clauses closed opened total repeated l =
+    cond (ltb variables (variableOf l)) 5
+    (cond (eqb opened maxClause) 6
+    (cond repeated 7 (cond (eqb opened 0 && leb clauses closed) 8 (cond (eqb total maxLiterals) 9 0))))
+
+-- the clauses that the tokens from `at` on write, or their first fault
+abbrev pub BodySays : List ℕ → ℕ → ℕ → ℕ → List ℕ → Body → Type 0
+BodySays text at variables clauses numbers (b.Refused number) = walk variables clauses [] [] (tokensHere text at) ≡ refused number
+BodySays text at variables clauses numbers (b.Read total) =
+    (done : List (List ℕ))
+    × (walk variables clauses [] [] (tokensHere text at) ≡ accepted (record { variables = variables; clauses = done }))
+    × (length done ≡ clauses)
+    × (length (flat done) ≡ total)
+    × (total ≤ maxLiterals)
+    × Written numbers clauses done []
+
+-- the formula of the whole text and its numbers, or the first fault
+pub record Read (text numbers : List ℕ) (variables clauses total : ℕ) : Type 0 where
+  pub formula : Formula
+  pub is-accepted : walkLines (linesOf text) ≡ accepted formula
+  pub same-variables : formula .variables ≡ variables
+  pub same-clauses : length (formula .clauses) ≡ clauses
+  pub same-literals : length (literals formula) ≡ total
+  pub few-clauses : clauses ≤ 1500
+  pub few-literals : total ≤ 6000
+  pub long : length numbers ≡ 7504
+  pub front : take (clauses + total + 4) numbers ≡ numbersOf formula
+
+abbrev pub ParsedSays : List ℕ → List ℕ → Parsed → Type 0
+ParsedSays text numbers (p.Refused number) = walkLines (linesOf text) ≡ refused number
+ParsedSays text numbers (p.Book variables clauses total) = Read text numbers variables clauses total

@@ -1,0 +1,46 @@
+-- What the contracts of the private functions that read the header say.
+use Prim.Native.Nat.{ℕ, _≤_}
+use mathlib.Core.Path.{_≡_}
+use mathlib.Core.Logic.{_⊎_}
+use mathlib.Core.Bool.{Bool, true, false}
+use mathlib.Core.List.{List, [], _∷_}
+use lib.ListN.{length, drop}
+use Rattle.base.specs.Lists.{same}
+use Rattle.book.specs.Text.{header, unsigned, decimal}
+use Rattle.book.specs.Reading.{refused}
+use Rattle.book.specs.Inner.Words.{wordsBehind}
+use Rattle.book.specs.Inner.Walk.{walkUnder, walkStart}
+use Rattle.book.specs.Inner.Steps.{lineWords, tokensHere}
+use Rattle.book.specs.declared.header.Keyword.{Keyword}
+use Rattle.book.specs.declared.header.Keyword.the-variants as k
+use Rattle.book.specs.declared.header.Field.{Field}
+use Rattle.book.specs.declared.header.Field.the-variants as f
+use Rattle.book.specs.declared.header.Header.{Header}
+use Rattle.book.specs.declared.header.Header.the-variants as h
+
+-- the line's next word passes a test, and the line goes on at `next`
+pub record WordPasses (test : List ℕ → Bool) (text : List ℕ) (at next : ℕ) : Type 0 where
+  pub word : List ℕ
+  pub passes : test word ≡ true
+  pub words : lineWords text at ≡ word ∷ lineWords text next
+  pub within : next ≤ length text
+  pub same-behind : wordsBehind at (drop at text) ≡ wordsBehind next (drop next text)
+
+-- the line has no next word, or one that fails the test
+pub data WordFails (test : List ℕ → Bool) (text : List ℕ) (at : ℕ) : Type 0 where
+  none : lineWords text at ≡ [] → WordFails test text at
+  other : (word : List ℕ) (rest : List (List ℕ)) → lineWords text at ≡ word ∷ rest → test word ≡ false → WordFails test text at
+
+abbrev pub KeywordSays : List ℕ → ℕ → List ℕ → Keyword → Type 0
+KeywordSays text at word (k.Found next) = WordPasses (λ (w : List ℕ). same w word) text at (next .at)
+KeywordSays text at word k.Missing = WordFails (λ (w : List ℕ). same w word) text at
+
+abbrev pub FieldSays : List ℕ → ℕ → Field → Type 0
+FieldSays text at (f.Value value next) = (p : WordPasses unsigned text at (next .at)) × (decimal 0 (p .word) ≡ value)
+FieldSays text at f.Missing = WordFails unsigned text at
+
+-- the answer to a text whose lines before `at` are skipped: malformed, or what the words behind the header say
+abbrev pub HeaderSays : List ℕ → ℕ → Header → Type 0
+HeaderSays text at (h.Found variables clauses next) =
+    (next .at ≤ length text) × (walkStart at (drop at text) ≡ walkUnder (header variables clauses) (tokensHere text (next .at)))
+HeaderSays text at h.Malformed = walkStart at (drop at text) ≡ refused 2

@@ -1,0 +1,163 @@
+-- The theorems of the reference run: validity, closure, what a decision and a backtrack change, agreement of runs, fuel.
+use Prim.Native.Nat.{ℕ, suc, _+_, _<_}
+use native.Mathlib.Omega.{arith}
+use mathlib.Core.Bool.{Bool, true, false, cond, not}
+use mathlib.Core.List.{List, [], _∷_, _++_}
+use mathlib.Core.Logic.{inl, _↔_}
+use mathlib.Core.Path.{_≡_, refl, sym, ap, _∙_}
+use borrow.Author.Tests.{eqb-true, ne-eqb}
+use lib.Dec.{eqb}
+use lib.ListN.{length, getD, drop}
+use Rattle.base.specs.Lists.{all, member}
+use Rattle.base.proofs.Tests.{never, same-test}
+use Rattle.book.specs.Formula.{Formula, sound}
+use Rattle.run.specs.Trail.{Entry, isTrue, isFalse, decisions, cut}
+use Rattle.run.specs.Scan.{Cell}
+use Rattle.run.specs.Run.{Run, clauseOf, Action, moves, action, onTrail, inConflict, propagateFrom, fresh, assignUnits, openRun, decide, backtrack}
+use Rattle.run.specs.Calls.{Call, decision, takeBack, decideRefusal, backtrackRefusal, refusal, perform, step, stepAll, reference}
+use Rattle.run.specs.Valid.{Valid}
+use Rattle.run.specs.Closure.{Closure, UnitClosed, Holds, BothWays}
+use Rattle.run.proofs.Trails.{suffix-append, cut-suffix, cut-decisions}
+use Rattle.run.proofs.ScanLaws.{scan-found}
+use Rattle.run.proofs.Growth.{same, grown-by, propagating-grows}
+use Rattle.run.proofs.Visits.{Case, staying, moving, implying, conflicting, action-case}
+use Rattle.run.proofs.Validity.{propagated, fuel-enough, decision-accepted, decision-going, decided-valid, backtrack-accepted, backtracked-valid}
+use Rattle.run.proofs.Opening.{opening-state}
+use Rattle.run.proofs.ClosureLaws.{closure-within, closure-holds, closure-closed, closure-grows, settled-closure, conflict-both-ways}
+
+-- Every reference run is valid.
+pub open-valid : (formula : Formula) → sound formula ≡ true → Valid formula (openRun formula)
+unfolding openRun
+open-valid formula s = propagated formula s 0 (assignUnits 0 (formula .clauses) (fresh formula)) (opening-state formula s)
+
+pub decide-valid : (formula : Formula) (l : ℕ) (run : Run) → sound formula ≡ true → Valid formula run → decideRefusal formula l run ≡ 0
+    → Valid formula (decide formula l run)
+decide-valid formula l run s v z = decided-valid formula l run s v (decision-accepted formula l run z)
+
+pub backtrack-valid : (formula : Formula) (k : ℕ) (run : Run) → sound formula ≡ true → Valid formula run → backtrackRefusal k run ≡ 0
+    → Valid formula (backtrack k run)
+backtrack-valid formula k run s v z = let a = backtrack-accepted k run z in backtracked-valid k run v (a .0) (a .1) (a .2)
+
+perform-valid : (formula : Formula) (run : Run) → sound formula ≡ true → (call : Call) → Valid formula run → refusal formula call run ≡ 0
+    → Valid formula (perform formula call run)
+unfolding perform refusal
+perform-valid formula run s (decision l) v z = decide-valid formula l run s v z
+perform-valid formula run s (takeBack k) v z = backtrack-valid formula k run s v z
+
+pub step-valid : (formula : Formula) (run : Run) → sound formula ≡ true → (call : Call) → Valid formula run
+    → Valid formula (step formula run call)
+unfolding step
+step-valid formula run s call v = go (eqb (refusal formula call run) 0) refl
+  where
+    go : (b : Bool) → eqb (refusal formula call run) 0 ≡ b → Valid formula (cond b (perform formula call run) run)
+    go true e = perform-valid formula run s call v (eqb-true (refusal formula call run) 0 e)
+    go false e = v
+
+pub step-refused : (formula : Formula) (run : Run) (call : Call) → (refusal formula call run ≡ 0 → ⊥) → step formula run call ≡ run
+unfolding step
+step-refused formula run call n = rw (ne-eqb (refusal formula call run) 0 n)
+
+all-valid : (formula : Formula) → sound formula ≡ true → (calls : List Call) (run : Run) → Valid formula run
+    → Valid formula (stepAll formula run calls)
+unfolding stepAll
+all-valid formula s [] run v = v
+all-valid formula s (call ∷ calls) run v = all-valid formula s calls (step formula run call) (step-valid formula run s call v)
+
+pub reference-valid : (formula : Formula) → sound formula ≡ true → (calls : List Call) → Valid formula (reference formula calls)
+unfolding reference
+reference-valid formula s calls = all-valid formula s calls (openRun formula) (open-valid formula s)
+
+-- The closure is the least set that holds the decisions and is closed under the unit rule; any valid run holds just the closure of its
+-- decisions out of conflict, and is in conflict just where the closure has some variable both ways.
+pub closure-least : (formula : Formula) (ds : List ℕ)
+    → Holds ds (Closure formula ds)
+    × UnitClosed formula (Closure formula ds)
+    × ((S : ℕ → Type 0) → Holds ds S → UnitClosed formula S → (l : ℕ) → Closure formula ds l → S l)
+closure-least formula ds = (closure-holds formula ds, closure-closed formula ds, λ S holds closed l k. closure-within S holds closed k)
+
+pub settled-is-closure : (formula : Formula) (run : Run) → sound formula ≡ true → Valid formula run → run .conflict ≡ 0 → (l : ℕ)
+    → (isTrue (run .trail) l ≡ true) ↔ Closure formula (decisions (run .trail)) l
+settled-is-closure formula run s v = settled-closure formula s run v
+
+pub conflict-is-both-ways : (formula : Formula) (run : Run) → sound formula ≡ true → Valid formula run
+    → (inConflict run ≡ true) ↔ BothWays (Closure formula (decisions (run .trail)))
+conflict-is-both-ways formula run s v = conflict-both-ways formula s run v
+
+pub conflict-clause-false : (formula : Formula) (run : Run) → Valid formula run → (c : ℕ) → run .conflict ≡ suc c
+    → (m : ℕ) → member m (clauseOf formula c) ≡ true → isFalse (run .trail) m ≡ true
+conflict-clause-false formula run v c e = v .conflict-false c e .1
+
+-- A decision puts its literal and implied ones on the trail and changes nothing before them. A backtrack of k leaves the trail up to
+-- before the k-th last decision, moves no watch, pointer or list, makes no check, ends a conflict, and counts one.
+pub decide-extends : (formula : Formula) (l : ℕ) (run : Run)
+    → (new : List Entry)
+    × (all (λ (e : Entry). not (e .decided)) new ≡ true)
+    × (decide formula l run .trail ≡ new ++ (record { literal = l; decided = true } ∷ run .trail))
+unfolding decide onTrail
+decide-extends formula l run =
+    grown-by
+    (propagating-grows (suc (formula .variables)) formula (length (run .trail)) (record { literal = l; decided = true } ∷ run .trail)
+    (onTrail l true run) same)
+
+pub backtrack-keeps : (k : ℕ) (run : Run)
+    → (backtrack k run .trail ≡ cut k (run .trail))
+    × (backtrack k run .cells ≡ run .cells)
+    × (backtrack k run .lists ≡ run .lists)
+    × (backtrack k run .checks ≡ run .checks)
+    × (backtrack k run .conflict ≡ 0)
+    × (backtrack k run .backtracks ≡ suc (run .backtracks))
+    × (decisions (cut k (run .trail)) ≡ drop k (decisions (run .trail)))
+    × ((left : List Entry) × (run .trail ≡ left ++ cut k (run .trail)))
+unfolding backtrack
+backtrack-keeps k run = (refl, refl, refl, refl, refl, refl, cut-decisions k (run .trail), suffix-append (cut-suffix k (run .trail)))
+
+-- Valid runs of one formula with the same decisions in force, in any order, agree.
+pub same-decisions-agree : (formula : Formula) (a b : Run) → sound formula ≡ true → Valid formula a → Valid formula b
+    → ((l : ℕ) → member l (decisions (a .trail)) ≡ member l (decisions (b .trail)))
+    → a .conflict ≡ 0 → b .conflict ≡ 0 → (l : ℕ) → isTrue (a .trail) l ≡ isTrue (b .trail) l
+same-decisions-agree formula a b s v w same-ds p q l =
+    same-test (isTrue (a .trail) l) (isTrue (b .trail) l)
+    (λ t. on-b .1 (closure-grows (decisions (b .trail)) (λ m h. sym (same-ds m) ∙ h) (on-a .0 t)))
+    (λ t. on-a .1 (closure-grows (decisions (a .trail)) (λ m h. same-ds m ∙ h) (on-b .0 t)))
+  where
+    on-a : (isTrue (a .trail) l ≡ true) ↔ Closure formula (decisions (a .trail)) l
+    on-a = settled-closure formula s a v p l
+
+    on-b : (isTrue (b .trail) l ≡ true) ↔ Closure formula (decisions (b .trail)) l
+    on-b = settled-closure formula s b w q l
+
+pub conflicting-decisions : (formula : Formula) (a b : Run) → sound formula ≡ true → Valid formula a → Valid formula b
+    → ((l : ℕ) → member l (decisions (a .trail)) ≡ member l (decisions (b .trail)))
+    → inConflict a ≡ true → inConflict b ≡ true
+conflicting-decisions formula a b s v w same-ds e =
+    let both = conflict-both-ways formula s a v .0 e in
+    conflict-both-ways formula s b w .1 (both .0, also (both .1), also (both .2))
+  where
+    also : {l : ℕ} → Closure formula (decisions (a .trail)) l → Closure formula (decisions (b .trail)) l
+    also k = closure-grows (decisions (b .trail)) (λ m h. sym (same-ds m) ∙ h) k
+
+-- The fuel never runs out: with any larger fuel the opening and an accepted decision are the same.
+pub fuel-suffices : (formula : Formula) → sound formula ≡ true → (extra : ℕ)
+    → (propagateFrom (suc (formula .variables) + extra) formula 0 (assignUnits 0 (formula .clauses) (fresh formula)) ≡ openRun formula)
+    × ((l : ℕ) (run : Run) → Valid formula run → decideRefusal formula l run ≡ 0
+    → propagateFrom (suc (formula .variables) + extra) formula (length (run .trail)) (onTrail l true run) ≡ decide formula l run)
+unfolding openRun decide
+fuel-suffices formula s extra = (
+  fuel-enough formula s extra 0 (assignUnits 0 (formula .clauses) (fresh formula)) (opening-state formula s),
+  λ l run v z. fuel-enough formula s extra (length (run .trail)) (onTrail l true run)
+      (inl (decision-going v (decision-accepted formula l run z))),
+)
+
+-- A clause is never pushed onto the list being read. (That it stands once in each watch's list and in no other is `Valid .listed`.)
+pub never-pushed-on-the-list-read : (trail : List Entry) (clause : List ℕ) (cell : Cell) (q position made : ℕ)
+    → cell .pointer < length clause
+    → isFalse trail q ≡ true → action trail clause cell q ≡ moves position made → getD clause position 0 ≡ q → ⊥
+never-pushed-on-the-list-read trail clause cell q position made within f e = go (action-case trail clause cell q) e
+  where
+    go : {a : Action} → Case trail clause cell q a → a ≡ moves position made → getD clause position 0 ≡ q → ⊥
+    go (staying t) z on = let n : _≡_ {A = ℕ} 0 1 = cc in omega arith
+    go (moving p u found) z on =
+        let same-place : p ≡ position = cc in
+        never f (rw (sym on ∙ ap (λ (i : ℕ). getD clause i 0) (sym same-place)) (scan-found trail clause cell p within found .2))
+    go (implying u n g) z on = let n : _≡_ {A = ℕ} 0 1 = cc in omega arith
+    go (conflicting u n g) z on = let n : _≡_ {A = ℕ} 0 1 = cc in omega arith

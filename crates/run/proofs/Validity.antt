@@ -1,0 +1,261 @@
+-- Settling ends in a valid run, and a decision and a backtrack keep a run valid.
+use Prim.Native.Nat.{ℕ, zero, suc, _+_, _/_, _≤_, _<_}
+use native.Mathlib.Omega.{arith}
+use mathlib.Core.Bool.{Bool, true, false, cond, _&&_}
+use mathlib.Core.List.{List, [], _∷_}
+use mathlib.Core.Logic.{_⊎_, inl, inr, ⊎-elim}
+use mathlib.Core.Path.{_≡_, refl, sym, _∙_}
+use borrow.Author.Tests.{eqb-true, eq-eqb, le-leb, leb-true, leb-false, not-false}
+use lib.Dec.{leb, eqb}
+use lib.ListN.{length, length-map}
+use Rattle.base.specs.Lists.{distinct, times}
+use Rattle.base.proofs.Bools.{and-parts}
+use Rattle.base.proofs.Tests.{never, neither-left, neither-right}
+use Rattle.base.proofs.Pigeonhole.{pigeonhole}
+use Rattle.book.specs.Formula.{Formula, variableOf, literalWithin, sound}
+use Rattle.run.specs.Trail.{Entry, opposite, place, literalAt, isTrue, isFalse, isAssigned, decisions, lowered, cut}
+use Rattle.run.specs.Scan.{Cell}
+use Rattle.run.specs.Run.{Run, size, listOf, onTrail, visit, inConflict, propagateFrom, propagate, decide, backtrack}
+use Rattle.run.specs.Calls.{decideRefusal, backtrackRefusal, maxBacktracks}
+use Rattle.run.specs.Valid.{one, Justified, Valid}
+use Rattle.run.proofs.Trails.{opposite-opposite, opposite-injective, untrue-place, place-of-literal, place-injective, variables, variable-on, place-true, Suffix, whole, newer, suffix-distinct, lowered-cases, lowered-suffix, lowered-count, suffix-true, cut-suffix}
+use Rattle.run.proofs.Clauses.{within-bounds}
+use Rattle.run.proofs.WatchLists.{secondLiteral, firstLiteral, among}
+use Rattle.run.proofs.Inductions.{read-induction, nextRead, readNext, propagate-induction, enough-fuel}
+use Rattle.run.proofs.Settling.{Guard, Kept, Pending, pending-push, pending-lowered, unsettle, Trailed, valid-structure, Going, Ended, Reading, quiet-out, going-valid}
+use Rattle.run.proofs.Visits.{trailed-push, visit-outcome}
+
+-- the trail holds no more literals than there are variables
+pub trail-short : {formula : Formula} {trail : List Entry} → Trailed formula trail → length trail ≤ formula .variables
+trail-short {formula} {trail} t =
+    rw (← length-map trail (λ (e : Entry). variableOf (e .literal)))
+    (pigeonhole (formula .variables) (variables trail) (t .once) (λ x m. within x (variable-on trail x m)))
+  where
+    within : (x : ℕ) → (l : ℕ) × (0 < place trail l) × (variableOf l ≡ x) → (1 ≤ x) × (x ≤ formula .variables)
+    within x k =
+        let w = within-bounds (formula .variables) (k .0) (t .within (k .0) (place-true trail (k .0) (k .1))) in
+        let e : k .0 / 2 ≡ x = k .2 in
+        (omega arith, omega arith)
+
+-- a clause that stands in no list of q watches another literal
+unlisted : (l a b : ℕ) → among l a b ≡ 0 → (l ≡ a → ⊥) × (l ≡ b → ⊥)
+unlisted l a b z =
+    (λ e. let o : one (eqb l a) ≡ 1 = rw (eq-eqb l a e) in omega arith, λ e. let o : one (eqb l b) ≡ 1 = rw (eq-eqb l b e) in omega arith)
+
+-- its condition goes on over the opposite of q
+kept-next : {trail : List Entry} {handled q a b : ℕ} → place trail (opposite q) ≡ suc handled → (q ≡ a → ⊥) → (q ≡ b → ⊥)
+    → Kept trail handled a b
+    → Kept trail (suc handled) a b
+kept-next {trail} {handled} {q} {a} {b} at n m k = record { forth = guard a b n (k .forth); back = guard b a m (k .back) }
+  where
+    guard : (x y : ℕ) → (q ≡ x → ⊥) → Guard trail handled x y → Guard trail (suc handled) x y
+    guard x y apart g p h =
+        let other : place trail (opposite x) ≡ suc handled → ⊥
+        = λ e. apart (opposite-injective q x (place-injective trail (opposite q) (opposite x) (omega arith) (at ∙ sym e))) in
+        g p (omega arith)
+
+-- reading begins
+pub reading-begins : {formula : Formula} {handled : ℕ} {run : Run} → Going formula handled run → handled < length (run .trail)
+    → Reading formula handled (nextRead handled run) (listOf (run .lists) (nextRead handled run)) run
+reading-begins {formula} {handled} {run} g h =
+    record {
+      going = g;
+      next = at;
+      read = λ c two z. rest c two (unlisted q (first c) (second c) (sym (watched-by c two) ∙ z));
+      left = λ c. omega arith;
+    }
+  where
+    q : ℕ
+    q = nextRead handled run
+
+    first : ℕ → ℕ
+    first c = firstLiteral formula (run .cells) c
+
+    second : ℕ → ℕ
+    second c = secondLiteral formula (run .cells) c
+
+    watched-by : (c : ℕ) → 2 ≤ size formula c → times c (listOf (run .lists) q) ≡ among q (first c) (second c)
+    watched-by c two = rw (g .structure .watched .listed q c, le-leb 2 (size formula c) two)
+
+    at : place (run .trail) (opposite q) ≡ suc handled
+    at =
+        rw (opposite-opposite (literalAt (run .trail) (suc handled)))
+        (place-of-literal (run .trail) handled (g .structure .trailed .once) h)
+
+    rest : (c : ℕ) → 2 ≤ size formula c → (q ≡ first c → ⊥) × (q ≡ second c → ⊥) → Kept (run .trail) (suc handled) (first c) (second c)
+    rest c two n = kept-next at (n .0) (n .1) (g .pending .kept c two)
+
+pub reading-ends : {formula : Formula} {handled q : ℕ} {run : Run} → Reading formula handled q [] run → Going formula (suc handled) run
+unfolding times
+reading-ends {formula} {handled} {q} {run} r =
+    record {
+      structure = r .going .structure;
+      quiet = r .going .quiet;
+      pending =
+          record {
+            units-on = r .going .pending .units-on;
+            units-level = r .going .pending .units-level;
+            kept = λ c two. r .read c two refl;
+            low = omega (arith, r .going .pending .low);
+          };
+    }
+
+module _ (formula : Formula) (s : sound formula ≡ true) where
+  pub reads : (handled : ℕ) (run : Run) → Going formula handled run → handled < length (run .trail)
+      → Going formula (suc handled) (readNext formula handled run) ⊎ Ended formula (readNext formula handled run)
+  reads handled run g h =
+      ⊎-elim (λ r. inl (reading-ends r)) inr
+      (read-induction formula q (Reading formula handled q) (Ended formula)
+      (λ c unread r k z. ⊎-elim (λ o. o) (λ o. absurd (never (o .loud) z)) (visit-outcome formula s handled q c unread r k))
+      (λ c unread r k z.
+      ⊎-elim (λ o. absurd (never z (quiet-out (visit formula q c r) (o .going .quiet)))) (λ o. o) (visit-outcome formula s handled q c unread r k))
+      (listOf (run .lists) q) run (reading-begins g h))
+    where
+      q : ℕ
+      q = nextRead handled run
+
+  pub short : (handled : ℕ) (run : Run) → Going formula handled run → length (run .trail) ≤ formula .variables
+  short handled run g = trail-short (g .structure .trailed)
+
+  -- propagating ends with a valid run, and any fuel over the number of variables gives the same
+  pub propagated : (handled : ℕ) (run : Run) → Going formula handled run ⊎ Ended formula run → Valid formula (propagate formula handled run)
+  propagated handled run state =
+      ⊎-elim (λ done. going-valid (done .1) (done .2)) (λ e. e .valid)
+      (propagate-induction formula (Going formula) (Ended formula) (formula .variables) (λ h r g. quiet-out r (g .quiet)) (λ r e. e .loud)
+      short reads
+      (suc (formula .variables)) handled run (omega arith) state)
+
+  pub fuel-enough : (extra handled : ℕ) (run : Run) → Going formula handled run ⊎ Ended formula run
+      → propagateFrom (suc (formula .variables) + extra) formula handled run ≡ propagate formula handled run
+  fuel-enough extra handled run state =
+      enough-fuel formula (Going formula) (Ended formula) (formula .variables) (λ h r g. quiet-out r (g .quiet))
+      (λ r e. e .loud) short reads
+      (suc (formula .variables) + extra) (suc (formula .variables)) handled run (omega arith) (omega arith) state
+
+-- what an accepted decision says
+pub record Accepted (formula : Formula) (l : ℕ) (run : Run) : Type 0 where
+  pub literal-within : literalWithin (formula .variables) l ≡ true
+  pub quiet : run .conflict ≡ 0
+  pub untrue : isTrue (run .trail) l ≡ false
+  pub unfalse : isFalse (run .trail) l ≡ false
+
+pub decision-accepted : (formula : Formula) (l : ℕ) (run : Run) → decideRefusal formula l run ≡ 0 → Accepted formula l run
+unfolding decideRefusal
+decision-accepted formula l run z = go (literalWithin (formula .variables) l) refl (inConflict run) refl (isAssigned (run .trail) l) refl z
+  where
+    go : (w : Bool) → literalWithin (formula .variables) l ≡ w → (c : Bool) → inConflict run ≡ c → (a : Bool)
+        → isAssigned (run .trail) l ≡ a
+        → _≡_ {A = ℕ} (cond w (cond c 14 (cond a 15 0)) 13) 0 → Accepted formula l run
+    go true p false q false r z =
+        record {
+          literal-within = p;
+          quiet = eqb-true (run .conflict) 0 (not-false (eqb (run .conflict) 0) q);
+          untrue = neither-left (isTrue (run .trail) l) (isFalse (run .trail) l) r;
+          unfalse = neither-right (isTrue (run .trail) l) (isFalse (run .trail) l) r;
+        }
+    go true p false q true r z = absurd (omega arith)
+    go true p true q a r z = absurd (omega arith)
+    go false p c q a r z = absurd (omega arith)
+
+-- a decision begins settling with all literals before it handled
+pub decision-going : {formula : Formula} {l : ℕ} {run : Run} → Valid formula run → Accepted formula l run
+    → Going formula (length (run .trail)) (onTrail l true run)
+unfolding onTrail
+decision-going {formula} {l} {run} v a =
+    record {
+      structure =
+          record {
+            watched = valid-structure v .watched;
+            trailed = trailed-push e (valid-structure v .trailed) (a .literal-within) off off′ (λ z. absurd (never refl z));
+            counted = valid-structure v .counted;
+          };
+      quiet = a .quiet;
+      pending = pending-push e off (omega arith) low (unsettle run (v .trail-distinct) (v .settled (a .quiet)));
+    }
+  where
+    e : Entry
+    e = record { literal = l; decided = true }
+
+    off : place (run .trail) l ≡ 0
+    off = untrue-place (run .trail) l (a .untrue)
+
+    off′ : place (run .trail) (opposite l) ≡ 0
+    off′ = untrue-place (run .trail) (opposite l) (a .unfalse)
+
+    low : length (lowered (e ∷ run .trail)) ≤ length (run .trail)
+    low = ⊎-elim (λ p. rw (p .1) (omega arith)) (λ p. absurd (never refl (p .0))) (lowered-cases e (run .trail))
+
+pub decided-valid : (formula : Formula) (l : ℕ) (run : Run) → sound formula ≡ true → Valid formula run → Accepted formula l run
+    → Valid formula (decide formula l run)
+unfolding decide
+decided-valid formula l run s v a = propagated formula s (length (run .trail)) (onTrail l true run) (inl (decision-going v a))
+
+-- an older part of the trail keeps its conditions
+justified-older : (formula : Formula) {old trail : List Entry} → Suffix old trail → Justified formula trail → Justified formula old
+justified-older formula whole j = j
+justified-older formula (newer e s) j = justified-older formula s (j .1)
+
+pub trailed-older : {formula : Formula} {old trail : List Entry} → Suffix old trail → Trailed formula trail → Trailed formula old
+trailed-older {formula} s t =
+    record {
+      within = λ l h. t .within l (suffix-true s l h);
+      once = suffix-distinct s (t .once);
+      justified = justified-older formula s (t .justified);
+    }
+
+pending-cut : {formula : Formula} {cells : List Cell} (k : ℕ) (trail : List Entry) → distinct (variables trail) ≡ true
+    → k ≤ length (decisions trail)
+    → Pending formula cells trail (length trail) → Pending formula cells (cut k trail) (length (cut k trail))
+unfolding cut
+pending-cut zero trail d h p = p
+pending-cut (suc k) trail d h p =
+    pending-cut k (lowered trail) (suffix-distinct (lowered-suffix trail) d) (omega (arith, lowered-count trail))
+    (pending-lowered d (omega arith) p)
+
+-- below the top level of a valid run all is settled, in conflict too
+pending-below : {formula : Formula} {run : Run} → Valid formula run → 0 < length (decisions (run .trail))
+    → Pending formula (run .cells) (lowered (run .trail)) (length (lowered (run .trail)))
+pending-below {formula} {run} v some = go (run .conflict) refl
+  where
+    go : (name : ℕ) → run .conflict ≡ name → Pending formula (run .cells) (lowered (run .trail)) (length (lowered (run .trail)))
+    go zero e = pending-lowered (v .trail-distinct) some (unsettle run (v .trail-distinct) (v .settled e))
+    go (suc c) e = unsettle run (suffix-distinct (lowered-suffix (run .trail)) (v .trail-distinct)) (v .settled-below c e some)
+
+-- what an accepted backtrack says
+pub backtrack-accepted : (k : ℕ) (run : Run) → backtrackRefusal k run ≡ 0
+    → (1 ≤ k) × (k ≤ length (decisions (run .trail))) × (run .backtracks < maxBacktracks)
+unfolding backtrackRefusal
+backtrack-accepted k run z = go (leb 1 k && leb k (length (decisions (run .trail)))) refl (leb maxBacktracks (run .backtracks)) refl z
+  where
+    go : (w : Bool) → (leb 1 k && leb k (length (decisions (run .trail)))) ≡ w → (b : Bool) → leb maxBacktracks (run .backtracks) ≡ b
+        → _≡_ {A = ℕ} (cond w (cond b 17 0) 16) 0 → (1 ≤ k) × (k ≤ length (decisions (run .trail))) × (run .backtracks < maxBacktracks)
+    go true p false q z = (
+      leb-true 1 k (and-parts (leb 1 k) (leb k (length (decisions (run .trail)))) p .0),
+      leb-true k (length (decisions (run .trail))) (and-parts (leb 1 k) (leb k (length (decisions (run .trail)))) p .1),
+      leb-false maxBacktracks (run .backtracks) q,
+    )
+    go true p true q z = absurd (omega arith)
+    go false p b q z = absurd (omega arith)
+
+pub backtracked-valid : {formula : Formula} (k : ℕ) (run : Run) → Valid formula run → 1 ≤ k → k ≤ length (decisions (run .trail))
+    → run .backtracks < maxBacktracks
+    → Valid formula (backtrack k run)
+unfolding backtrack cut
+backtracked-valid {formula} zero run v one most few = absurd (omega arith)
+backtracked-valid {formula} (suc k) run v one most few =
+    going-valid {handled = length (cut (suc k) (run .trail))}
+    (record {
+      structure =
+          record {
+            watched = valid-structure v .watched;
+            trailed = trailed-older (cut-suffix (suc k) (run .trail)) (valid-structure v .trailed);
+            counted =
+                record { checks-length = v .checks-length; checks-within = v .checks-within; backtracks-within = few };
+          };
+      quiet = refl;
+      pending =
+          pending-cut k (lowered (run .trail)) (suffix-distinct (lowered-suffix (run .trail)) (v .trail-distinct))
+          (omega (arith, lowered-count (run .trail)))
+          (pending-below v (omega arith));
+    })
+    (omega arith)

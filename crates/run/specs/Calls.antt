@@ -1,0 +1,46 @@
+-- A list of calls on one session, the refusals in the run's own state, and the reference run of the list.
+use Prim.Native.Nat.{ℕ, zero, suc, _+_, _*_}
+use mathlib.Core.Bool.{Bool, true, false, cond, _&&_, _||_}
+use mathlib.Core.List.{List, [], _∷_}
+use lib.Dec.{leb, ltb, eqb}
+use lib.ListN.{length}
+use Rattle.book.specs.Formula.{Formula, literalWithin}
+use Rattle.run.specs.Trail.{isAssigned, decisions}
+use Rattle.run.specs.Run.{Run, inConflict, openRun, decide, backtrack}
+
+-- What follows an accepted opening: decisions (choices) of any number as literal, and backtracks (take-backs) of any number k.
+pub data Call : Type 0 where
+  decision : ℕ → Call
+  takeBack : ℕ → Call
+
+abbrev pub maxBacktracks : ℕ
+maxBacktracks = 1000000
+
+-- The table's number for a call in the run's own state, the lowest that applies; 0 where the call is accepted.
+unfoldable pub decideRefusal : Formula → ℕ → Run → ℕ
+decideRefusal formula l run =
+    cond (literalWithin (formula .variables) l) (cond (inConflict run) 14 (cond (isAssigned (run .trail) l) 15 0)) 13
+
+unfoldable pub backtrackRefusal : ℕ → Run → ℕ
+backtrackRefusal k run =
+    cond (leb 1 k && leb k (length (decisions (run .trail)))) (cond (leb maxBacktracks (run .backtracks)) 17 0) 16
+
+unfoldable pub refusal : Formula → Call → Run → ℕ
+refusal formula (decision l) run = decideRefusal formula l run
+refusal formula (takeBack k) run = backtrackRefusal k run
+
+unfoldable pub perform : Formula → Call → Run → Run
+perform formula (decision l) run = decide formula l run
+perform formula (takeBack k) run = backtrack k run
+
+-- One call: a refused one changes nothing.
+unfoldable pub step : Formula → Run → Call → Run
+step formula run call = cond (eqb (refusal formula call run) 0) (perform formula call run) run
+
+unfoldable pub stepAll : Formula → Run → List Call → Run
+stepAll formula run [] = run
+stepAll formula run (call ∷ calls) = stepAll formula (step formula run call) calls
+
+-- The reference run (the paper's written run) of a list of calls: an opening, and then the calls in order.
+unfoldable pub reference : Formula → List Call → Run
+reference formula calls = stepAll formula (openRun formula) calls

@@ -1,0 +1,30 @@
+-- What statement 3 counts: the checks of a clause since the latest accepted backtrack of a list of calls, and their ceiling.
+use Prim.Native.Nat.{ℕ, _*_, _-_}
+use mathlib.Core.Bool.{cond}
+use mathlib.Core.List.{List, [], _∷_}
+use lib.Dec.{eqb}
+use lib.ListN.{getD}
+use Rattle.book.specs.Formula.{Formula}
+use Rattle.run.specs.Run.{Run, size, openRun}
+use Rattle.run.specs.Calls.{Call, decision, takeBack, backtrackRefusal, step, reference}
+
+abbrev pub checksOf : Run → ℕ → ℕ
+checksOf run c = getD (run .checks) c 0
+
+-- the count of clause c at the latest accepted backtrack among the calls made from `run` on; `count` where there is none
+unfoldable pub countAtLatest : Formula → ℕ → ℕ → Run → List Call → ℕ
+countAtLatest formula c count run [] = count
+countAtLatest formula c count run (decision l ∷ calls) = countAtLatest formula c count (step formula run (decision l)) calls
+countAtLatest formula c count run (takeBack k ∷ calls) =
+    countAtLatest formula c
+    (cond (eqb (backtrackRefusal k run) 0) (checksOf run c) count)
+    (step formula run (takeBack k))
+    calls
+
+-- The checks of clause c when the period began: at the latest accepted backtrack, or 0, as the opening began, where there is none.
+abbrev pub countBefore : Formula → ℕ → List Call → ℕ
+countBefore formula c calls = countAtLatest formula c 0 (openRun formula) calls
+
+-- the ceiling of a clause of n ≥ 2 literals in one period
+abbrev pub ceiling : ℕ → ℕ
+ceiling n = 2 * n - 3

@@ -1,0 +1,8 @@
+-- The definitions of `run`, in the order of document 01: trail, scan, settling, calls, examination; and the closure of statement 2.
+pub mod Trail
+pub mod Scan
+pub mod Run
+pub mod Calls
+pub mod Valid
+pub mod Closure
+pub mod Ceiling

@@ -1,0 +1,1 @@
+// The reference run of document 01 and its theorems; this crate has no code.
