@@ -1,10 +1,10 @@
 -- A list whose front part is copied from another list, as a loop that copies meets it.
 use Prim.Native.Nat.{ℕ, suc, _+_, _≤_, _<_}
 use mathlib.Core.Path.{_≡_, refl, ap, sym, _∙_}
-use mathlib.Core.List.{List, _∷_, _++_, []}
+use mathlib.Core.List.{List, _++_}
 use native.Mathlib.Numerals.{add-one}
 use native.Mathlib.Omega.{arith}
-use lib.ListN.{length, getD, take, drop, set, length-take, length-drop, length-append}
+use lib.ListN.{length, getD, take, drop, set, length-drop, length-append}
 use lib.Seq.{drop-cons, set-at, append-snoc, take-suc, length-take-le}
 
 -- the first i numbers are the source's, the rest is as it was

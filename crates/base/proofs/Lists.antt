@@ -1,14 +1,15 @@
--- Laws of the functions on lists: elements, membership, no number twice.
+-- Laws of lists: places, parts, one element more, tests of every element, lists one after the other, the first number.
 use Prim.Native.Nat.{ℕ, zero, suc, _+_, _-_, _≤_, _<_}
-use mathlib.Core.Bool.{Bool, true, false, not, _&&_, _||_, or-false, or-assoc, and-true, and-assoc}
-use mathlib.Core.List.{List, [], _∷_, _++_}
-use mathlib.Core.Path.{_≡_, refl, sym, _∙_}
-use borrow.Author.Tests.{eqb-true, eqb-false, eq-eqb, ne-eqb}
-use lib.Dec.{eqb}
 use native.Mathlib.Omega.{arith}
-use lib.ListN.{length, getD, take, drop, replicate, length-drop}
-use lib.Seq.{take-add, drop-drop, length-take-le}
-use Rattle.base.specs.Lists.{all, member, distinct}
+use mathlib.Core.Bool.{Bool, true, false, _&&_, and-true, and-assoc}
+use mathlib.Core.List.{List, [], _∷_, _++_, append-assoc, append-nil}
+use mathlib.Core.Logic.{_⊎_, inl, inr}
+use mathlib.Core.Path.{_≡_, refl, sym, _∙_}
+use borrow.Author.Tests.{eqb-true, eqb-false, eq-eqb, ne-eqb, ltb-true, ltb-false}
+use lib.Dec.{eqb, ltb}
+use lib.ListN.{length, getD, take, drop, set, replicate, length-append, length-drop, drop-of-length-le}
+use lib.Seq.{take-add, drop-cons, drop-drop, length-take-le, getD-set-same, getD-set-other, set-out}
+use Rattle.base.specs.Lists.{all, flat, empty, begins}
 use Rattle.base.proofs.Bools.{and-parts}
 
 -- where all elements are alike, and so is the default, every place gives the same
@@ -16,6 +17,17 @@ pub getD-alike : {A : Type 0} (n i : ℕ) (a : A) → getD (replicate n a) i a �
 getD-alike zero i a = refl
 getD-alike (suc n) zero a = refl
 getD-alike (suc n) (suc i) a = getD-alike n i a
+
+-- every place keeps what it holds, or it is the one that is set
+pub getD-set-cases : {A : Type 0} (xs : List A) (i j : ℕ) (a d : A)
+    → (getD (set xs i a) j d ≡ getD xs j d) ⊎ ((j ≡ i) × (getD (set xs i a) j d ≡ a))
+getD-set-cases xs i j a d = go (eqb j i) refl (ltb i (length xs)) refl
+  where
+    go : (t : Bool) → eqb j i ≡ t → (u : Bool) → ltb i (length xs) ≡ u
+        → (getD (set xs i a) j d ≡ getD xs j d) ⊎ ((j ≡ i) × (getD (set xs i a) j d ≡ a))
+    go true e true f = inr (eqb-true j i e, rw (eqb-true j i e) (getD-set-same xs i a d (ltb-true i (length xs) f)))
+    go true e false f = inl (rw (set-out xs i a (ltb-false i (length xs) f)) refl)
+    go false e u f = inl (getD-set-other xs i j a d (eqb-false j i e))
 
 module _ {A : Type 0} where
   -- the elements from place s up to, not including, place t
@@ -49,44 +61,58 @@ module _ {A : Type 0} where
   all-more p [] x = and-true (p x)
   all-more p (y ∷ xs) x = rw (all-more p xs x, and-assoc)
 
-pub eqb-sym : (x y : ℕ) → eqb x y ≡ eqb y x
-eqb-sym x y = go (eqb x y) refl
-  where
-    go : (b : Bool) → eqb x y ≡ b → eqb x y ≡ eqb y x
-    go true e = e ∙ sym (eq-eqb y x (sym (eqb-true x y e)))
-    go false e = e ∙ sym (ne-eqb y x (λ q. eqb-false x y e (sym q)))
+  pub length-more : (xs : List A) (x : A) → length (xs ++ (x ∷ [])) ≡ suc (length xs)
+  length-more xs x = length-append xs (x ∷ []) ∙ omega arith
 
--- what stands in two lists, one after the other, stands in one of them
-pub member-append : (x : ℕ) (xs ys : List ℕ) → member x (xs ++ ys) ≡ (member x xs || member x ys)
-unfolding member
-member-append x [] ys = refl
-member-append x (y ∷ xs) ys = rw (member-append x xs ys, or-assoc)
+  pub all-append : (p : A → Bool) (xs ys : List A) → all p (xs ++ ys) ≡ (all p xs && all p ys)
+  unfolding all
+  all-append p [] ys = refl
+  all-append p (x ∷ xs) ys = rw (all-append p xs ys) (sym (and-assoc (p x) (all p xs) (all p ys)))
 
-pub member-more : (x : ℕ) (xs : List ℕ) (y : ℕ) → member x (xs ++ (y ∷ [])) ≡ (member x xs || eqb x y)
-unfolding member
-member-more x xs y = rw (member-append, or-false)
+  pub all-both : (p : A → Bool) (xs ys : List A) → all p xs ≡ true → all p ys ≡ true → all p (xs ++ ys) ≡ true
+  all-both p xs ys h i = rw (all-append, h, i)
 
--- a list with one number more repeats none if it did not before and the number is new
-pub distinct-more : (xs : List ℕ) (x : ℕ) → distinct (xs ++ (x ∷ [])) ≡ (distinct xs && not (member x xs))
-unfolding distinct member
-distinct-more [] x = refl
-distinct-more (y ∷ xs) x =
-    rw (distinct-more xs x, member-more y xs x, eqb-sym y x) (exchange (member y xs) (eqb x y) (distinct xs) (member x xs))
-  where
-    exchange : (m e d n : Bool) → (not (m || e) && (d && not n)) ≡ ((not m && d) && not (e || n))
-    exchange true e d n = refl
-    exchange false true true n = refl
-    exchange false true false n = refl
-    exchange false false d n = refl
+  pub all-middle : (p : A → Bool) (xs : List A) (y : A) (ys : List A) → all p (xs ++ (y ∷ ys)) ≡ true → p y ≡ true
+  unfolding all
+  all-middle p [] y ys h = and-parts (p y) (all p ys) h .0
+  all-middle p (x ∷ xs) y ys h = all-middle p xs y ys (and-parts (p x) (all p (xs ++ (y ∷ ys))) h .1)
 
--- a list without its last numbers repeats none either
-pub distinct-front : (xs ys : List ℕ) → distinct (xs ++ ys) ≡ true → distinct xs ≡ true
-unfolding distinct
-distinct-front [] ys e = refl
-distinct-front (x ∷ xs) ys e =
-    let parts = and-parts (not (member x (xs ++ ys))) (distinct (xs ++ ys)) e in
-    rw (absent (member x xs) (member x ys) (rw member-append at (parts .0)), distinct-front xs ys (parts .1))
-  where
-    absent : (a b : Bool) → not (a || b) ≡ true → not a ≡ true
-    absent true b h = h
-    absent false b h = refl
+  -- what every element is, it is also by a weaker test
+  pub all-imply : (p q : A → Bool) → ((x : A) → p x ≡ true → q x ≡ true) → (xs : List A) → all p xs ≡ true → all q xs ≡ true
+  unfolding all
+  all-imply p q imply [] h = refl
+  all-imply p q imply (x ∷ xs) h = go (p x) refl h (all-imply p q imply xs)
+    where
+      go : (b : Bool) → p x ≡ b → (b && all p xs) ≡ true → (all p xs ≡ true → all q xs ≡ true) → (q x && all q xs) ≡ true
+      go true e h ih = rw (imply x e, ih h)
+      go false e h ih = cc
+
+  flat-append : (xss yss : List (List A)) → flat (xss ++ yss) ≡ flat xss ++ flat yss
+  unfolding flat
+  flat-append [] yss = refl
+  flat-append (xs ∷ xss) yss = rw (flat-append xss yss) (sym (append-assoc xs (flat xss) (flat yss)))
+
+  pub flat-more : (xss : List (List A)) (xs : List A) → flat (xss ++ (xs ∷ [])) ≡ flat xss ++ xs
+  unfolding flat
+  flat-more xss xs = rw (flat-append xss (xs ∷ []), append-nil)
+
+  pub empty-test : (xs : List A) → empty xs ≡ eqb (length xs) 0
+  unfolding empty
+  empty-test [] = sym (eq-eqb 0 0 refl)
+  empty-test (x ∷ xs) = sym (ne-eqb (suc (length xs)) 0 (λ e. omega arith))
+
+  -- lists of one length are both empty or both not
+  pub empty-length : (xs ys : List A) → length xs ≡ length ys → empty xs ≡ empty ys
+  empty-length xs ys h = rw (empty-test xs, empty-test ys, h)
+
+  pub empty-false : (xs : List A) → 1 ≤ length xs → empty xs ≡ false
+  empty-false xs h = empty-test xs ∙ ne-eqb (length xs) 0 (λ e. omega arith)
+
+-- the first number from a place on
+pub begins-at : (b : ℕ) (xs : List ℕ) (i : ℕ) → i < length xs → begins b (drop i xs) ≡ eqb (getD xs i 0) b
+unfolding begins
+begins-at b xs i h = rw (drop-cons xs i 0 h)
+
+pub begins-end : (b : ℕ) (xs : List ℕ) (i : ℕ) → length xs ≤ i → begins b (drop i xs) ≡ false
+unfolding begins
+begins-end b xs i h = rw (drop-of-length-le xs h)

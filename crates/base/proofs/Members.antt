@@ -1,17 +1,60 @@
--- Laws of membership, of lists without repetition, of counting, and of tests on every element.
+-- Laws of numbers in lists: membership, no number twice, how often a number stands in a list.
 use Prim.Native.Nat.{ℕ, zero, suc, _<_}
 use native.Mathlib.Nat.{le-of-suc-le-suc}
 use native.Mathlib.Omega.{arith}
-use mathlib.Core.Bool.{Bool, true, false, cond, not, or-true}
-use mathlib.Core.List.{List, [], _∷_}
+use mathlib.Core.Bool.{Bool, true, false, cond, not, _&&_, _||_, or-true, or-false, or-assoc}
+use mathlib.Core.List.{List, [], _∷_, _++_}
 use mathlib.Core.Logic.{_⊎_, inl, inr}
 use mathlib.Core.Path.{_≡_, refl, sym, ap, _∙_}
 use borrow.Author.Tests.{eqb-true, eqb-false, eq-eqb, ne-eqb, not-true}
 use lib.Dec.{eqb}
 use lib.ListN.{length, getD}
-use Rattle.base.specs.Lists.{all, keep, member, distinct, times}
-use Rattle.base.proofs.Bools.{and-parts}
-use Rattle.base.proofs.Tests.{either, never}
+use Rattle.base.specs.Lists.{keep, member, distinct, times}
+use Rattle.base.proofs.Bools.{either, neither-left, neither-right, never, eqb-sym, and-parts}
+
+-- what stands in two lists, one after the other, stands in one of them
+pub member-append : (x : ℕ) (xs ys : List ℕ) → member x (xs ++ ys) ≡ (member x xs || member x ys)
+unfolding member
+member-append x [] ys = refl
+member-append x (y ∷ xs) ys = rw (member-append x xs ys, or-assoc)
+
+pub member-more : (x : ℕ) (xs : List ℕ) (y : ℕ) → member x (xs ++ (y ∷ [])) ≡ (member x xs || eqb x y)
+unfolding member
+member-more x xs y = rw (member-append, or-false)
+
+-- a list with one number more repeats none if it did not before and the number is new
+pub distinct-more : (xs : List ℕ) (x : ℕ) → distinct (xs ++ (x ∷ [])) ≡ (distinct xs && not (member x xs))
+unfolding distinct member
+distinct-more [] x = refl
+distinct-more (y ∷ xs) x =
+    rw (distinct-more xs x, member-more y xs x, eqb-sym y x) (exchange (member y xs) (eqb x y) (distinct xs) (member x xs))
+  where
+    exchange : (m e d n : Bool) → (not (m || e) && (d && not n)) ≡ ((not m && d) && not (e || n))
+    exchange true e d n = refl
+    exchange false true true n = refl
+    exchange false true false n = refl
+    exchange false false d n = refl
+
+-- a list without its last numbers repeats none either
+pub distinct-front : (xs ys : List ℕ) → distinct (xs ++ ys) ≡ true → distinct xs ≡ true
+unfolding distinct
+distinct-front [] ys e = refl
+distinct-front (x ∷ xs) ys e =
+    let parts = and-parts (not (member x (xs ++ ys))) (distinct (xs ++ ys)) e in
+    let apart : (member x xs || member x ys) ≡ false = rw member-append at (not-true (member x (xs ++ ys)) (parts .0)) in
+    rw (neither-left (member x xs) (member x ys) apart, distinct-front xs ys (parts .1))
+
+-- in a list without repetition, an element does not stand before itself
+pub distinct-middle : (xs : List ℕ) (y : ℕ) (ys : List ℕ) → distinct (xs ++ (y ∷ ys)) ≡ true → member y xs ≡ false
+unfolding distinct member
+distinct-middle [] y ys h = refl
+distinct-middle (x ∷ xs) y ys h =
+    let parts = and-parts (not (member x (xs ++ (y ∷ ys)))) (distinct (xs ++ (y ∷ ys))) h in
+    let apart : (member x xs || (eqb x y || member x ys)) ≡ false
+    = rw member-append at (not-true (member x (xs ++ (y ∷ ys))) (parts .0)) in
+    let other : eqb x y ≡ false
+    = neither-left (eqb x y) (member x ys) (neither-right (member x xs) (eqb x y || member x ys) apart) in
+    rw (eqb-sym y x, other, distinct-middle xs y ys (parts .1))
 
 -- the element at a position stands in the list, and what stands in it has a position
 pub member-at : (xs : List ℕ) (i : ℕ) → i < length xs → member (getD xs i 0) xs ≡ true
@@ -45,13 +88,6 @@ distinct-positions (x ∷ xs) zero (suc j) d h k e = absurd (fresh-head x xs j d
 distinct-positions (x ∷ xs) (suc i) zero d h k e = absurd (fresh-head x xs i d (le-of-suc-le-suc h) (sym e))
 distinct-positions (x ∷ xs) (suc i) (suc j) d h k e =
     ap suc (distinct-positions xs i j (and-parts (not (member x xs)) (distinct xs) d .1) (le-of-suc-le-suc h) (le-of-suc-le-suc k) e)
-
--- a test on every element says it of each
-pub all-at : {A : Type 0} (p : A → Bool) (xs : List A) (i : ℕ) (d : A) → all p xs ≡ true → i < length xs → p (getD xs i d) ≡ true
-unfolding all
-all-at p [] i d a h = absurd (omega arith)
-all-at p (x ∷ xs) zero d a h = and-parts (p x) (all p xs) a .0
-all-at p (x ∷ xs) (suc i) d a h = all-at p xs i d (and-parts (p x) (all p xs) a .1) (le-of-suc-le-suc h)
 
 -- counting: what stands in the list counts, what does not counts nothing
 pub times-same : (x : ℕ) (xs : List ℕ) → times x (x ∷ xs) ≡ suc (times x xs)

@@ -9,8 +9,7 @@ use borrow.Author.Tests.{eqb-true, eqb-false, eq-eqb, ne-eqb, not-true}
 use lib.Dec.{eqb}
 use lib.ListN.{length}
 use Rattle.base.specs.Lists.{keep, member, distinct}
-use Rattle.base.proofs.Bools.{and-parts, refuted}
-use Rattle.base.proofs.Tests.{both, either, never, neither-left, neither-right}
+use Rattle.base.proofs.Bools.{both, either, neither-left, neither-right, never, and-parts, refuted}
 use Rattle.base.proofs.Members.{member-at}
 
 -- the list without the number n

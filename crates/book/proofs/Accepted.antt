@@ -1,5 +1,5 @@
 -- A formula that reading a text accepts is within document 01's limits.
-use Prim.Native.Nat.{ℕ, suc, _+_, _*_, _/_, _≤_}
+use Prim.Native.Nat.{ℕ, _+_, _*_, _≤_}
 use native.Mathlib.Omega.{arith}
 use mathlib.Core.Path.{_≡_, refl, sym, _∙_}
 use mathlib.Core.Bool.{Bool, true, false, cond, _&&_, _||_, true≢false}
@@ -8,15 +8,16 @@ use lib.Dec.{leb, ltb, eqb}
 use lib.ListN.{length, length-append}
 use borrow.Author.Tests.{ltb-false, leb-true, le-leb, eqb-true, eqb-false}
 use Rattle.base.specs.Lists.{all, flat, empty, member, distinct}
-use Rattle.base.proofs.Bools.{and-parts}
-use Rattle.base.proofs.Lists.{distinct-more}
-use Rattle.base.proofs.AllFlat.{all-both, flat-more}
+use Rattle.base.proofs.Bools.{neither-left, neither-right, and-parts}
+use Rattle.base.proofs.Lists.{all-both, flat-more}
+use Rattle.base.proofs.Members.{distinct-more}
 use Rattle.book.specs.Formula.{Formula, variableOf, positive, negative, maxVariables, maxClauses, maxLiterals, maxClause, literalWithin, soundClause, sound}
 use Rattle.book.specs.Text.{Piece, Token, literal, close, invalid, decimal, unsigned, unsignedToken, negativeToken, tokenOf, linesOf, Header, header, malformed, headerOf}
 use Rattle.book.specs.Faults.{outside, bodyOf}
 use Rattle.book.specs.Reading.{maxText, Judged, refused, accepted, readText}
 use Rattle.book.specs.Inner.Walk.{walk, tokensOf, walkUnder, walkLines}
 use Rattle.book.proofs.LeastFault.{read-is-walk}
+use Rattle.book.proofs.SoundLaws.{literal-whole, clause-whole, clauses-decide-sound}
 
 -- a token of a word: its literal has a variable
 unfoldable pub real : Token → Bool
@@ -82,10 +83,6 @@ unfolding all distinct flat
 within-none variables =
     record { clauses-sound = refl; literals-within = refl; variables-once = refl; clause-short = omega arith; literals-few = omega arith }
 
-within-limits : (variables l : ℕ) → 2 ≤ l → l / 2 ≤ variables → literalWithin variables l ≡ true
-unfolding literalWithin
-within-limits variables l low high = rw (le-leb 2 l low, le-leb l (2 * variables + 1) (omega arith))
-
 within-literal : (variables : ℕ) (done : List (List ℕ)) (current : List ℕ) (l : ℕ) → Within variables done current
     → real (literal l) ≡ true
     → ltb variables (variableOf l) ≡ false → eqb (length current) maxClause ≡ false
@@ -95,7 +92,7 @@ unfolding real all
 within-literal variables done current l w r small short new few = record {
   clauses-sound = w .clauses-sound;
   literals-within = all-both (literalWithin variables) current (l ∷ []) (w .literals-within)
-      (rw (within-limits variables l (leb-true 2 l r) (ltb-false variables (variableOf l) small)));
+      (rw (literal-whole variables l (leb-true 2 l r) (omega (arith, ltb-false variables (variableOf l) small))));
   variables-once = rw (map-append, distinct-more, w .variables-once, new);
   clause-short = rw length-append (omega (arith, eqb-false (length current) maxClause short));
   literals-few = rw length-append (omega (arith, eqb-false (length (flat done) + length current) maxLiterals few));
@@ -103,15 +100,11 @@ within-literal variables done current l w r small short new few = record {
 
 clause-within : (variables : ℕ) (done : List (List ℕ)) (current : List ℕ) → Within variables done current → empty current ≡ false
     → soundClause variables current ≡ true
-unfolding soundClause empty
+unfolding empty
 clause-within variables done [] w filled = absurd (true≢false filled)
 clause-within variables done (l ∷ ls) w filled =
-    rw (
-      le-leb 1 (suc (length ls)) (omega arith),
-      le-leb (suc (length ls)) maxClause (w .clause-short),
-      w .literals-within,
-      w .variables-once,
-    )
+    clause-whole variables (l ∷ ls)
+    (record { filled = omega arith; short = w .clause-short; within = w .literals-within; once = w .variables-once })
 
 within-close : (variables : ℕ) (done : List (List ℕ)) (current : List ℕ) → Within variables done current → empty current ≡ false
     → Within variables (done ++ (current ∷ [])) []
@@ -128,15 +121,8 @@ within-close variables done current w filled = record {
 sound-done : (variables : ℕ) (done : List (List ℕ)) (current : List ℕ) → Within variables done current → 1 ≤ variables
     → variables ≤ maxVariables → length done ≤ maxClauses
     → sound (record { variables = variables; clauses = done }) ≡ true
-unfolding sound
 sound-done variables done current w some few clauses =
-    rw (
-      le-leb 1 variables some,
-      le-leb variables maxVariables few,
-      le-leb (length done) maxClauses clauses,
-      le-leb (length (flat done)) maxLiterals (omega arith),
-      w .clauses-sound,
-    )
+    clauses-decide-sound (record { variables = variables; clauses = done }) some few clauses (omega arith) ∙ w .clauses-sound
 
 ended : (whole counted : Bool) (made formula : Formula) → cond (whole && counted) (accepted made) (refused 8) ≡ accepted formula
     → (counted ≡ true) × (formula ≡ made)
@@ -169,15 +155,14 @@ walk-sound variables clauses (invalid ∷ tokens) v v′ c done current formula 
 pub inside-limits : (variables clauses : ℕ) → outside variables clauses ≡ false
     → (1 ≤ variables) × (variables ≤ maxVariables) × (clauses ≤ maxClauses)
 unfolding outside
-inside-limits variables clauses h = go (eqb variables 0) refl (ltb maxVariables variables) refl (ltb maxClauses clauses) refl h
-  where
-    go : (a : Bool) → eqb variables 0 ≡ a → (b : Bool) → ltb maxVariables variables ≡ b → (c : Bool) → ltb maxClauses clauses ≡ c
-        → (a || (b || c)) ≡ false → (1 ≤ variables) × (variables ≤ maxVariables) × (clauses ≤ maxClauses)
-    go true p b q c r h = absurd (true≢false h)
-    go false p true q c r h = absurd (true≢false h)
-    go false p false q true r h = absurd (true≢false h)
-    go false p false q false r h =
-        omega (arith, eqb-false variables 0 p, ltb-false maxVariables variables q, ltb-false maxClauses clauses r)
+inside-limits variables clauses h =
+    let few = neither-right (eqb variables 0) (ltb maxVariables variables || ltb maxClauses clauses) h in
+    omega (
+      arith,
+      eqb-false variables 0 (neither-left (eqb variables 0) (ltb maxVariables variables || ltb maxClauses clauses) h),
+      ltb-false maxVariables variables (neither-left (ltb maxVariables variables) (ltb maxClauses clauses) few),
+      ltb-false maxClauses clauses (neither-right (ltb maxVariables variables) (ltb maxClauses clauses) few),
+    )
 
 under-sound : (head : Header) (words : List Piece) (formula : Formula) → walkUnder head (tokensOf words) ≡ accepted formula
     → sound formula ≡ true

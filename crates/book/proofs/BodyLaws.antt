@@ -1,18 +1,17 @@
 -- The clauses of the text as the reader's loop meets them: faults of a literal, the walk, the numbers written.
-use Prim.Native.Nat.{ℕ, zero, suc, _+_, _-_, _≤_, _<_}
-use mathlib.Core.Path.{_≡_, refl, ap, ap₂, sym, _∙_}
-use mathlib.Core.Logic.{_⊎_, inl, inr, ⊎-elim}
-use mathlib.Core.Bool.{Bool, true, false, cond, _&&_}
+use Prim.Native.Nat.{ℕ, suc, _+_, _-_, _≤_, _<_}
+use mathlib.Core.Path.{_≡_, refl, ap, sym, _∙_}
+use mathlib.Core.Logic.{_⊎_, inl, inr}
+use mathlib.Core.Bool.{Bool, true, false, cond, _&&_, and-false}
 use mathlib.Core.List.{List, [], _∷_, _++_, map, append-nil, append-assoc}
-use native.Mathlib.Nat.{add-zero}
 use native.Mathlib.Omega.{arith}
 use borrow.Author.Tests.{lt-ltb, le-ltb, ltb-false, le-leb, lt-leb, eq-eqb, ne-eqb}
 use lib.Dec.{leb, ltb, eqb}
-use lib.ListN.{length, getD, take, drop, set, length-set, length-append, length-drop}
+use lib.ListN.{length, take, drop, set, length-set, length-append, length-drop}
 use lib.Seq.{drop-set-add, drop-set-lt, take-set-le, take-suc-set}
-use Rattle.base.specs.Lists.{flat, empty, member}
-use Rattle.base.proofs.Bools.{and-false}
-use Rattle.book.specs.Formula.{Formula, variableOf, maxClause, maxLiterals}
+use Rattle.base.specs.Lists.{flat, member}
+use Rattle.base.proofs.Lists.{length-more, flat-more, empty-test}
+use Rattle.book.specs.Formula.{variableOf, maxClause, maxLiterals}
 use Rattle.book.specs.Numbers.{starts}
 use Rattle.book.specs.Text.{Token, literal, close, invalid}
 use Rattle.book.specs.Reading.{Judged, refused, accepted}
@@ -77,11 +76,6 @@ chain-through false false false true many rest e = absurd (omega arith)
 chain-through false false false false true rest e = absurd (omega arith)
 chain-through false false false false false rest e = (refl, refl, refl, refl)
 
-empty-length : (xs : List ℕ) → empty xs ≡ eqb (length xs) 0
-unfolding empty
-empty-length [] = sym (eq-eqb 0 0 refl)
-empty-length (x ∷ xs) = sym (ne-eqb (suc (length xs)) 0 (λ e. omega arith))
-
 -- one token of the walk
 module _ (variables clauses : ℕ) (done : List (List ℕ)) (current : List ℕ) where
   -- the first fault of a literal here
@@ -95,21 +89,21 @@ module _ (variables clauses : ℕ) (done : List (List ℕ)) (current : List ℕ)
 
   pub walk-short : (tokens : List Token) → length current ≡ 0 → walk variables clauses done current (close ∷ tokens) ≡ refused 6
   unfolding walk
-  walk-short tokens e = rw (empty-length current, eq-eqb (length current) 0 e)
+  walk-short tokens e = rw (empty-test current, eq-eqb (length current) 0 e)
 
   pub walk-close : (tokens : List Token) → (length current ≡ 0 → ⊥)
       → walk variables clauses done current (close ∷ tokens) ≡ walk variables clauses (done ++ (current ∷ [])) [] tokens
   unfolding walk
-  walk-close tokens n = rw (empty-length current, ne-eqb (length current) 0 n)
+  walk-close tokens n = rw (empty-test current, ne-eqb (length current) 0 n)
 
   pub walk-fault : (l : ℕ) (tokens : List Token) (n : ℕ) → faultHere l ≡ n → (n ≡ 0 → ⊥) → walk variables clauses done current (literal l ∷ tokens) ≡ refused n
   unfolding walk literalFault
-  walk-fault l tokens n e h = rw (empty-length current) (chain (ltb variables (variableOf l)) (eqb (length current) maxClause) (member (variableOf l) (map variableOf current)) (eqb (length current) 0 && leb clauses (length done)) (eqb (length (flat done) + length current) maxLiterals) (walk variables clauses done (current ++ (l ∷ [])) tokens) n e h)
+  walk-fault l tokens n e h = rw (empty-test current) (chain (ltb variables (variableOf l)) (eqb (length current) maxClause) (member (variableOf l) (map variableOf current)) (eqb (length current) 0 && leb clauses (length done)) (eqb (length (flat done) + length current) maxLiterals) (walk variables clauses done (current ++ (l ∷ [])) tokens) n e h)
 
   pub walk-literal : (l : ℕ) (tokens : List Token) → faultHere l ≡ 0
       → walk variables clauses done current (literal l ∷ tokens) ≡ walk variables clauses done (current ++ (l ∷ [])) tokens
   unfolding walk literalFault
-  walk-literal l tokens e = rw (empty-length current) (chain-through (ltb variables (variableOf l)) (eqb (length current) maxClause) (member (variableOf l) (map variableOf current)) (eqb (length current) 0 && leb clauses (length done)) (eqb (length (flat done) + length current) maxLiterals) (walk variables clauses done (current ++ (l ∷ [])) tokens) e .3)
+  walk-literal l tokens e = rw (empty-test current) (chain-through (ltb variables (variableOf l)) (eqb (length current) maxClause) (member (variableOf l) (map variableOf current)) (eqb (length current) 0 && leb clauses (length done)) (eqb (length (flat done) + length current) maxLiterals) (walk variables clauses done (current ++ (l ∷ [])) tokens) e .3)
 
   -- what a literal without a fault keeps
   pub literal-within : (l : ℕ) → faultHere l ≡ 0
@@ -121,7 +115,7 @@ module _ (variables clauses : ℕ) (done : List (List ℕ)) (current : List ℕ)
 
   pub walk-open : (length current ≡ 0 → ⊥) → walk variables clauses done current [] ≡ refused 8
   unfolding walk
-  walk-open n = rw (empty-length current, ne-eqb (length current) 0 n)
+  walk-open n = rw (empty-test current, ne-eqb (length current) 0 n)
 
   pub walk-few : (length done ≡ clauses → ⊥) → walk variables clauses done current [] ≡ refused 8
   unfolding walk
@@ -129,12 +123,7 @@ module _ (variables clauses : ℕ) (done : List (List ℕ)) (current : List ℕ)
 
   pub walk-all : length current ≡ 0 → length done ≡ clauses → walk variables clauses done current [] ≡ accepted (record { variables = variables; clauses = done })
   unfolding walk
-  walk-all e h = rw (empty-length current, eq-eqb (length current) 0 e, eq-eqb (length done) clauses h)
-
-pub flat-more : (done : List (List ℕ)) (current : List ℕ) → flat (done ++ (current ∷ [])) ≡ flat done ++ current
-unfolding flat
-flat-more [] current = append-nil current
-flat-more (clause ∷ done) current = rw (flat-more done current) (sym (append-assoc clause (flat done) current))
+  walk-all e h = rw (empty-test current, eq-eqb (length current) 0 e, eq-eqb (length done) clauses h)
 
 starts-more : (from : ℕ) (done : List (List ℕ)) (current : List ℕ)
     → starts from (done ++ (current ∷ [])) ≡ starts from done ++ ((from + length (flat done ++ current)) ∷ [])
@@ -144,9 +133,6 @@ starts-more from (clause ∷ done) current =
     let long : from + length clause + length (flat done ++ current) ≡ from + length ((clause ++ flat done) ++ current)
     = rw (append-assoc clause (flat done) current, length-append clause (flat done ++ current)) (omega arith) in
     ap (λ (xs : List ℕ). from ∷ xs) (starts-more (from + length clause) done current ∙ ap (λ (n : ℕ). starts (from + length clause) done ++ (n ∷ [])) long)
-
-pub length-more : {A : Type 0} (xs : List A) (x : A) → length (xs ++ (x ∷ [])) ≡ suc (length xs)
-length-more xs x = length-append xs (x ∷ []) ∙ omega arith
 
 -- the numbers after a store
 module _ (numbers : List ℕ) (clauses : ℕ) (done : List (List ℕ)) (current : List ℕ) (few : clauses ≤ 1500) (w : Written numbers clauses done current) where

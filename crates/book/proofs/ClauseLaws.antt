@@ -1,61 +1,34 @@
--- Sound clauses: what they are, and the steps in which their literals are looked through with marks.
+-- The steps in which the literals of a clause are looked through with marks.
 use Prim.Native.Nat.{ℕ, suc, _+_, _*_, _/_, _≤_, _<_}
 use mathlib.Core.Bool.{true, false, not, false≢true}
 use mathlib.Core.List.{List, [], _∷_, _++_, map, map-append}
 use mathlib.Core.Path.{_≡_, refl, sym, _∙_}
 use native.Mathlib.Omega.{arith}
 use native.Mathlib.Numerals.{add-one}
-use borrow.Author.Tests.{leb-true, le-leb}
-use lib.Dec.{leb, eqb}
+use lib.Dec.{eqb}
 use lib.ListN.{length, getD, set, take, drop, take-append-drop}
 use lib.Seq.{take-suc, take-all}
 use Rattle.base.specs.Lists.{all, member, distinct}
-use Rattle.base.proofs.Bools.{and-parts, and-five, and-last, refuted}
-use Rattle.base.proofs.Lists.{all-at, all-more, distinct-more, distinct-front}
-use Rattle.book.specs.Formula.{variableOf, literalWithin, soundClause, maxClause}
+use Rattle.base.proofs.Bools.{and-parts, refuted}
+use Rattle.base.proofs.Lists.{all-more}
+use Rattle.base.proofs.Members.{distinct-more, distinct-front}
+use Rattle.book.specs.Formula.{variableOf, literalWithin, soundClause}
 use Rattle.book.specs.Inner.Marks.{Marked}
+use Rattle.book.proofs.SoundLaws.{literal-parts, literal-whole, clause-parts, clause-whole, clause-literal}
 use Rattle.book.proofs.MarkLaws.{marked-test, marked-more}
-
--- a sound clause, part by part
-pub record Sound (variables : ℕ) (clause : List ℕ) : Type 0 where
-  pub some : 1 ≤ length clause
-  pub few : length clause ≤ 255
-  pub within : all (literalWithin variables) clause ≡ true
-  pub once : distinct (map variableOf clause) ≡ true
-
-pub sound-parts : (variables : ℕ) (clause : List ℕ) → soundClause variables clause ≡ true → Sound variables clause
-unfolding soundClause
-sound-parts variables clause e =
-    let parts = and-five true (leb 1 (length clause)) (leb (length clause) maxClause) (all (literalWithin variables) clause)
-    (distinct (map variableOf clause)) e in
-    record { some = leb-true _ _ (parts .1); few = leb-true _ _ (parts .2); within = parts .3; once = parts .4 }
-
-pub sound-whole : (variables : ℕ) (clause : List ℕ) → Sound variables clause → soundClause variables clause ≡ true
-unfolding soundClause
-sound-whole variables clause s =
-    and-last {a = true} (distinct (map variableOf clause)) refl (le-leb _ _ (s .some)) (le-leb _ _ (s .few)) (s .within) ∙ s .once
-
--- each literal of a sound clause is one of the V variables
-pub sound-literal : (variables : ℕ) (clause : List ℕ) → Sound variables clause → (i : ℕ) → i < length clause
-    → (2 ≤ getD clause i 0) × (getD clause i 0 ≤ 2 * variables + 1)
-unfolding literalWithin
-sound-literal variables clause s i h =
-    let l = getD clause i 0 in
-    let parts = and-parts (leb 2 l) (leb l (2 * variables + 1)) (all-at (literalWithin variables) clause 0 (s .within) i h) in
-    (leb-true _ _ (parts .0), leb-true _ _ (parts .1))
 
 module _ (variables : ℕ) (clause : List ℕ) where
   pub refuse-empty : length clause < 1 → soundClause variables clause ≡ false
-  refuse-empty h = refuted _ (λ e. omega (arith, sound-parts variables clause e))
+  refuse-empty h = refuted _ (λ e. omega (arith, clause-parts variables clause e))
 
   pub refuse-long : 255 < length clause → soundClause variables clause ≡ false
-  refuse-long h = refuted _ (λ e. omega (arith, sound-parts variables clause e))
+  refuse-long h = refuted _ (λ e. omega (arith, clause-parts variables clause e))
 
   pub refuse-low : (i : ℕ) → i < length clause → getD clause i 0 < 2 → soundClause variables clause ≡ false
-  refuse-low i h low = refuted _ (λ e. omega (arith, sound-literal variables clause (sound-parts variables clause e) i h))
+  refuse-low i h low = refuted _ (λ e. omega (arith, literal-parts _ _ (clause-literal variables clause (clause-parts variables clause e) i h)))
 
   pub refuse-high : (i : ℕ) → i < length clause → 2 * variables + 1 < getD clause i 0 → soundClause variables clause ≡ false
-  refuse-high i h high = refuted _ (λ e. omega (arith, sound-literal variables clause (sound-parts variables clause e) i h))
+  refuse-high i h high = refuted _ (λ e. omega (arith, literal-parts _ _ (clause-literal variables clause (clause-parts variables clause e) i h)))
 
 -- The first i literals are passed: they are within the variables, no variable stands twice, and the marks bear the variables seen.
 pub record Passed (variables tag : ℕ) (clause marks : List ℕ) (i : ℕ) : Type 0 where
@@ -72,8 +45,8 @@ pub passed-all : (variables tag : ℕ) (clause marks : List ℕ) (i : ℕ) → P
     → 1 ≤ length clause → length clause ≤ 255 → soundClause variables clause ≡ true
 passed-all variables tag clause marks i p end some few =
     let whole : take i clause ≡ clause = take-all i clause end in
-    sound-whole variables clause
-    (record { some = some; few = few; within = rw whole at (p .within); once = rw whole at (p .once) })
+    clause-whole variables clause
+    (record { filled = some; short = few; within = rw whole at (p .within); once = rw whole at (p .once) })
 
 -- the next literal, l
 module _ (variables tag : ℕ) (clause marks : List ℕ) (i l : ℕ) (p : Passed variables tag clause marks i) (h : i < length clause)
@@ -92,7 +65,7 @@ module _ (variables tag : ℕ) (clause marks : List ℕ) (i l : ℕ) (p : Passed
         new : soundClause variables clause ≡ true → not (member (l / 2) (map variableOf (take i clause))) ≡ true
         new e =
             let whole : distinct (map variableOf (take (suc i) clause ++ drop (suc i) clause)) ≡ true =
-            rw take-append-drop (sound-parts variables clause e .once) in
+            rw take-append-drop (clause-parts variables clause e .once) in
             let front : distinct (map variableOf (take (suc i) clause)) ≡ true =
             distinct-front _ (map variableOf (drop (suc i) clause)) (rw map-append at whole) in
             and-parts (distinct (map variableOf (take i clause))) _ (rw (seen-more, distinct-more) at front) .1
@@ -100,13 +73,12 @@ module _ (variables tag : ℕ) (clause marks : List ℕ) (i l : ℕ) (p : Passed
     -- a literal within the variables, and whose variable does not bear the tag, is passed
     pub passed-more : 2 ≤ l → l ≤ 2 * variables + 1 → eqb (getD marks (l / 2) 0) tag ≡ false
         → Passed variables tag clause (set marks (l / 2) tag) (i + 1)
-    unfolding literalWithin
     passed-more low high fresh =
         let new : member (l / 2) (map variableOf (take i clause)) ≡ false = sym bears-seen ∙ fresh in
         rw add-one
         (record {
           bound = h;
-          within = rw (take-suc clause i 0 h, all-more, ← next, p .within, le-leb 2 l low) (le-leb _ _ high);
+          within = rw (take-suc clause i 0 h, all-more, ← next, p .within) (literal-whole variables l low high);
           once = rw (seen-more, distinct-more, p .once, new);
           marked = rw seen-more (marked-more marks tag (map variableOf (take i clause)) (l / 2) small (p .marked));
         })

@@ -1,16 +1,16 @@
 -- Steps of the cursor along the text, as its loops over an index meet them.
-use Prim.Native.Nat.{ℕ, zero, suc, _+_, _-_, _≤_, _<_}
-use mathlib.Core.Path.{_≡_, refl, ap, sym, _∙_, subst}
+use Prim.Native.Nat.{ℕ, suc, _+_, _-_, _≤_, _<_}
+use mathlib.Core.Path.{_≡_, refl, ap, sym, _∙_}
 use mathlib.Core.Bool.{Bool, true, false, cond, false≢true}
 use mathlib.Core.List.{List, [], _∷_, _++_, map}
-use native.Mathlib.Nat.{add-zero}
 use native.Mathlib.Numerals.{add-one}
 use native.Mathlib.Omega.{arith}
 use borrow.Author.Tests.{eq-eqb, ne-eqb, ltb-true, ltb-false}
-use lib.Dec.{eqb, ltb}
+use lib.Dec.{ltb}
 use lib.ListN.{length, getD, take, drop, length-drop, drop-of-length-le}
 use lib.Seq.{drop-cons, drop-drop}
 use Rattle.base.specs.Lists.{until, begins}
+use Rattle.base.proofs.Lists.{begins-at, begins-end}
 use Rattle.base.proofs.Until.{until-stop, until-more, take-until, until-within}
 use Rattle.book.specs.Text.{Piece, Token, blank, lineEnd, tokenOf}
 use Rattle.book.specs.Inner.Walk.{tokensOf, walkStart}
@@ -56,14 +56,6 @@ line-some (b ∷ t) h = go (lineEnd b)
     go : (e : Bool) → 0 < cond e 1 (suc (lineLength t))
     go true = omega arith
     go false = omega arith
-
-pub begins-at : (b : ℕ) (text : List ℕ) (i : ℕ) → i < length text → begins b (drop i text) ≡ eqb (getD text i 0) b
-unfolding begins
-begins-at b text i h = rw (drop-cons text i 0 h)
-
-pub begins-end : (b : ℕ) (text : List ℕ) (i : ℕ) → length text ≤ i → begins b (drop i text) ≡ false
-unfolding begins
-begins-end b text i h = rw (drop-of-length-le text h)
 
 -- From the start of a line at `at`, the lines up to i are skipped.
 pub record Skipped (text : List ℕ) (at i : ℕ) : Type 0 where

@@ -1,7 +1,7 @@
 -- Decimal numbers as the loop over a word's bytes meets them.
-use Prim.Native.Nat.{ℕ, zero, suc, _+_, _*_, _-_, _^_, _≤_, _<_}
+use Prim.Native.Nat.{ℕ, _+_, _*_, _-_, _^_, _≤_, _<_}
 use mathlib.Core.Path.{_≡_, refl, ap, sym, _∙_}
-use mathlib.Core.Bool.{Bool, true, false, cond, _&&_, false≢true}
+use mathlib.Core.Bool.{Bool, true, false, cond, _&&_, and-false}
 use mathlib.Core.List.{List, [], _∷_}
 use native.Mathlib.Nat.{pow-le-pow-right, pow-suc, mul-le-mul-right}
 use native.Mathlib.Numerals.{add-one}
@@ -10,11 +10,11 @@ use borrow.Author.Tests.{le-leb, lt-leb, leb-true, eq-eqb, ne-eqb}
 use lib.Dec.{leb, eqb}
 use lib.ListN.{length, getD, drop, drop-of-length-le}
 use lib.Seq.{drop-cons}
-use Rattle.base.specs.Lists.{all}
-use Rattle.base.proofs.Bools.{and-parts, and-false}
-use Rattle.book.specs.Text.{decimal, isDigit, unsigned, Token, literal, close, invalid, negativeToken, unsignedToken, tokenOf}
+use Rattle.base.specs.Lists.{all, begins}
+use Rattle.base.proofs.Bools.{and-parts}
+use Rattle.base.proofs.Lists.{begins-at}
+use Rattle.book.specs.Text.{decimal, isDigit, unsigned, literal, close, invalid, negativeToken, unsignedToken, tokenOf}
 use Rattle.book.specs.Inner.Steps.{digitsOf}
-use Rattle.book.specs.declared.bytes.Digits.{Digits}
 use Rattle.book.specs.declared.bytes.Digits.the-variants.{Value, Invalid}
 
 pub digit-true : (b : ℕ) → 48 ≤ b → b ≤ 57 → isDigit b ≡ true
@@ -28,6 +28,12 @@ digit-low b h = rw (lt-leb 48 b h)
 pub digit-high : (b : ℕ) → 57 < b → isDigit b ≡ false
 unfolding isDigit
 digit-high b h = rw (le-leb 48 b (omega arith), lt-leb b 57 h)
+
+pub digit-bounds : (b : ℕ) → isDigit b ≡ true → (48 ≤ b) × (b ≤ 57)
+unfolding isDigit
+digit-bounds b h =
+    let parts = and-parts (leb 48 b) (leb b 57) h in
+    (leb-true 48 b (parts .0), leb-true b 57 (parts .1))
 
 -- what the loop knows at byte i: the rest of the word decides, from the value so far on
 pub record Reading (word : List ℕ) (value i : ℕ) : Type 0 where
@@ -83,16 +89,12 @@ pub too-long : (word : List ℕ) → 9 < length word → Invalid ≡ digitsOf wo
 unfolding unsigned
 too-long word h = rw (le-leb 1 (length word) (omega arith), lt-leb (length word) 9 h)
 
-digit-at-most : (b : ℕ) → isDigit b ≡ true → b ≤ 57
-unfolding isDigit
-digit-at-most b h = leb-true b 57 (and-parts (leb 48 b) (leb b 57) h .1)
-
 -- decimal digits write less than a 1 with as many zeros
 decimal-below : (digits : List ℕ) (n : ℕ) → all isDigit digits ≡ true → decimal n digits < (n + 1) * 10 ^ length digits
 unfolding decimal all
 decimal-below [] n e = omega arith
 decimal-below (d ∷ digits) n e =
-    let high : d ≤ 57 = digit-at-most d (and-parts (isDigit d) (all isDigit digits) e .0) in
+    let high : d ≤ 57 = digit-bounds d (and-parts (isDigit d) (all isDigit digits) e .0) .1 in
     let rest : decimal (10 * n + (d - 48)) digits < (10 * n + (d - 48) + 1) * 10 ^ length digits
     = decimal-below digits (10 * n + (d - 48)) (and-parts (isDigit d) (all isDigit digits) e .1) in
     let more : (10 * n + (d - 48) + 1) * 10 ^ length digits ≤ (10 * (n + 1)) * 10 ^ length digits
@@ -131,10 +133,13 @@ unfolding tokenOf
 token-signed [] h e = absurd (omega arith)
 token-signed (b ∷ word) h e = rw (eq-eqb b 45 e)
 
+pub token-plain : (word : List ℕ) → begins 45 word ≡ false → tokenOf word ≡ unsignedToken word
+unfolding tokenOf begins unsignedToken unsigned
+token-plain [] h = refl
+token-plain (b ∷ word) h = rw h
+
 pub token-unsigned : (word : List ℕ) → 0 < length word → (getD word 0 0 ≡ 45 → ⊥) → tokenOf word ≡ unsignedToken word
-unfolding tokenOf
-token-unsigned [] h e = absurd (omega arith)
-token-unsigned (b ∷ word) h e = rw (ne-eqb b 45 e)
+token-unsigned word h e = token-plain word (begins-at 45 word 0 h ∙ ne-eqb (getD word 0 0) 45 e)
 
 pub token-empty : (word : List ℕ) → length word ≡ 0 → tokenOf word ≡ invalid
 unfolding tokenOf

@@ -5,24 +5,21 @@ use native.Mathlib.Omega.{arith}
 use mathlib.Core.Path.{_≡_, refl, sym, ap, _∙_}
 use mathlib.Core.Bool.{Bool, true, false, cond, not, true≢false}
 use mathlib.Core.List.{List, [], _∷_, _++_}
-use lib.Dec.{leb, ltb}
+use lib.Dec.{ltb}
 use lib.ListN.{length, length-append}
-use borrow.Author.Tests.{lt-ltb, ltb-true, leb-true, le-leb, ne-eqb}
+use borrow.Author.Tests.{lt-ltb, ltb-true, le-leb, ne-eqb}
 use Rattle.base.specs.Lists.{all, begins}
 use Rattle.base.proofs.Bools.{and-parts}
-use Rattle.base.proofs.AllFlat.{all-both}
+use Rattle.base.proofs.Lists.{all-both}
 use Rattle.book.specs.Text.{decimal, isDigit, unsigned, blank}
 use Rattle.book.specs.Printer.{digits, printNumber}
+use Rattle.book.proofs.DecimalLaws.{digit-true, digit-bounds}
 
 -- a digit more
 pub decimal-more : (n : ℕ) (ds : List ℕ) (d : ℕ) → decimal n (ds ++ (d ∷ [])) ≡ 10 * decimal n ds + (d - 48)
 unfolding decimal
 decimal-more n [] d = refl
 decimal-more n (x ∷ ds) d = decimal-more (10 * n + (x - 48)) ds d
-
-digit : (n : ℕ) → n < 10 → isDigit (48 + n) ≡ true
-unfolding isDigit
-digit n h = rw (le-leb 48 (48 + n) (omega arith), le-leb (48 + n) 57 (omega arith))
 
 -- what is printed: at least one digit, at most so many, and the number
 pub record Printed (places n : ℕ) (ds : List ℕ) : Type 0 where
@@ -34,14 +31,14 @@ pub record Printed (places n : ℕ) (ds : List ℕ) : Type 0 where
 one-digit : (places n : ℕ) → n < 10 → Printed (suc places) n ((48 + n) ∷ [])
 unfolding all decimal
 one-digit places n h =
-    record { some-digit = omega arith; few-digits = omega arith; all-digits = rw (digit n h); number-back = omega arith }
+    record { some-digit = omega arith; few-digits = omega arith; all-digits = rw (digit-true (48 + n) (omega arith) (omega arith)); number-back = omega arith }
 
 more-digits : (places n : ℕ) (ds : List ℕ) → Printed places (n / 10) ds → Printed (suc places) n (ds ++ ((48 + n % 10) ∷ []))
 unfolding all
 more-digits places n ds p = record {
   some-digit = rw length-append (omega arith);
   few-digits = rw length-append (omega arith);
-  all-digits = all-both isDigit ds ((48 + n % 10) ∷ []) (p .all-digits) (rw (digit (n % 10) (omega arith)));
+  all-digits = all-both isDigit ds ((48 + n % 10) ∷ []) (p .all-digits) (rw (digit-true (48 + n % 10) (omega arith) (omega arith)));
   number-back = rw (decimal-more, p .number-back) (omega arith);
 }
 
@@ -64,12 +61,6 @@ unfolding unsigned
 printed-unsigned n h =
     let p = number-printed n h in
     rw (le-leb 1 (length (printNumber n)) (p .some-digit), le-leb (length (printNumber n)) 9 (p .few-digits), p .all-digits)
-
-digit-bounds : (b : ℕ) → isDigit b ≡ true → (48 ≤ b) × (b ≤ 57)
-unfolding isDigit
-digit-bounds b h =
-    let parts = and-parts (leb 48 b) (leb b 57) h in
-    (leb-true 48 b (parts .0), leb-true b 57 (parts .1))
 
 -- digits are no blanks
 pub digit-not-blank : (b : ℕ) → isDigit b ≡ true → not (blank b) ≡ true

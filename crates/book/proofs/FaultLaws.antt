@@ -10,7 +10,7 @@ use lib.Dec.{leb, ltb, eqb}
 use lib.ListN.{length}
 use borrow.Author.Tests.{ltb-true, ltb-false, leb-true, leb-false, eqb-true, eqb-false, lt-ltb, le-leb, eq-eqb, le-ltb}
 use Rattle.base.specs.Lists.{all}
-use Rattle.base.proofs.AllFlat.{all-imply}
+use Rattle.base.proofs.Lists.{all-imply}
 use Rattle.book.specs.Formula.{Formula}
 use Rattle.book.specs.Text.{linesOf}
 use Rattle.book.specs.Faults.{Fault, faultsOf}

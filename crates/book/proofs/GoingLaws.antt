@@ -1,22 +1,23 @@
 -- The state of the reader's loop over the clauses, and what each token makes of it.
-use Prim.Native.Nat.{ℕ, zero, suc, _+_, _-_, _≤_, _<_}
+use Prim.Native.Nat.{ℕ, _+_, _-_, _≤_, _<_}
 use mathlib.Core.Path.{_≡_, refl, ap, sym, _∙_, subst}
 use mathlib.Core.Bool.{Bool, true, false, _&&_}
-use mathlib.Core.List.{List, [], _∷_, _++_, map}
+use mathlib.Core.List.{List, [], _∷_, _++_, map, map-append}
 use native.Mathlib.Omega.{arith}
 use borrow.Author.Tests.{eqb-false, leb-false, ltb-true, ltb-false}
 use lib.Dec.{leb, ltb, eqb}
 use lib.ListN.{length, getD, set, replicate, length-append}
 use Rattle.base.specs.Lists.{flat, member}
+use Rattle.base.proofs.Lists.{length-more, flat-more}
 use Rattle.book.specs.Formula.{variableOf, maxLiterals}
 use Rattle.book.specs.Text.{Token, literal, close, invalid}
 use Rattle.book.specs.Reading.{refused, accepted}
 use Rattle.book.specs.Inner.Walk.{walk}
 use Rattle.book.specs.Inner.Steps.{tokensHere, NextWord}
-use Rattle.book.specs.Inner.Marks.{Bounded, Marked}
+use Rattle.book.specs.Inner.Marks.{Marked}
 use Rattle.book.specs.Inner.Bodies.{Written, literalFault}
 use Rattle.book.proofs.MarkLaws.{bounded-fresh, marked-none, marked-test, marked-more}
-use Rattle.book.proofs.BodyLaws.{faultHere, fault-over, walk-invalid, walk-short, walk-close, walk-fault, walk-literal, literal-within, walk-open, walk-few, walk-all, written-none, written-literal, written-close, flat-more, length-more}
+use Rattle.book.proofs.BodyLaws.{faultHere, fault-over, walk-invalid, walk-short, walk-close, walk-fault, walk-literal, literal-within, walk-open, walk-few, walk-all, written-none, written-literal, written-close}
 
 -- `at`: the place of the next word; `closed` clauses are closed, with `first` literals; `total` literals in all. The rest of the text decides.
 pub record Going (text : List ℕ) (start variables clauses : ℕ) (numbers marks : List ℕ) (at closed first total : ℕ) : Type 0 where
@@ -51,10 +52,6 @@ going-start text start variables clauses numbers h long =
       marked = marked-none (replicate 501 0) 0 (0 + 1) (omega arith) bounded-fresh;
       same-walk = refl;
     }
-
-map-more : (xs : List ℕ) (x : ℕ) → map variableOf (xs ++ (x ∷ [])) ≡ map variableOf xs ++ (variableOf x ∷ [])
-map-more [] x = refl
-map-more (y ∷ xs) x = ap (λ (ys : List ℕ). variableOf y ∷ ys) (map-more xs x)
 
 module _ (text : List ℕ) (start variables clauses : ℕ) (numbers marks : List ℕ) (at closed first total : ℕ)
     (g : Going text start variables clauses numbers marks at closed first total) where
@@ -186,7 +183,7 @@ module _ (text : List ℕ) (start variables clauses : ℕ) (numbers marks : List
             total-within = omega (arith, total-below);
             written = written-literal numbers clauses (g .done) (g .current) some (g .written) total l total-of (omega (arith, g .closed-is, g .closed-within)) total-below;
             marked =
-                rw (map-more (g .current) l)
+                rw (map-append variableOf (g .current) (l ∷ []))
                 (marked-more marks (closed + 1) (map variableOf (g .current)) (variableOf l) (omega (arith, variable-within)) (g .marked));
             same-walk =
                 sym

@@ -1,16 +1,15 @@
 -- The header line, word by word, as the code meets it.
 use Prim.Native.Nat.{ℕ, suc, _-_}
 use mathlib.Core.Path.{_≡_, refl, ap, sym, _∙_}
-use mathlib.Core.Bool.{Bool, true, false, cond, _&&_}
-use mathlib.Core.List.{List, [], _∷_, map}
+use mathlib.Core.Bool.{Bool, true, false, and-false}
+use mathlib.Core.List.{List, [], _∷_}
 use native.Mathlib.Omega.{arith}
 use borrow.Author.Tests.{ne-eqb}
 use lib.ListN.{length, take, drop}
-use Rattle.base.specs.Lists.{same, begins, until}
-use Rattle.base.proofs.Bools.{and-false}
-use Rattle.book.specs.Text.{Piece, Token, lineEnd, unsigned, decimal, header, malformed, headed, headerIn, headerOf}
+use Rattle.base.specs.Lists.{same, begins}
+use Rattle.book.specs.Text.{unsigned, decimal, header, headed, headerIn}
 use Rattle.book.specs.Reading.{refused}
-use Rattle.book.specs.Inner.Words.{wordsBehind, wordsLine}
+use Rattle.book.specs.Inner.Words.{wordsBehind}
 use Rattle.book.specs.Inner.Walk.{tokensOf, walkUnder, walkStart}
 use Rattle.book.specs.Inner.Steps.{lineWords, tokensHere, NextInLine, LineEnds}
 use Rattle.book.specs.Inner.Heads.{WordPasses, WordFails, none, other}

@@ -8,15 +8,15 @@ use mathlib.Core.Option.{Option, none, some}
 use lib.Dec.{leb, ltb, eqb}
 use lib.ListN.{length, length-append}
 use borrow.Author.Tests.{ltb-true, lt-ltb, leb-true, le-leb, eq-eqb}
-use Rattle.base.specs.Lists.{all, keep, flat, empty, member, begins}
-use Rattle.base.proofs.Lists.{member-more}
-use Rattle.base.proofs.AllFlat.{all-both, all-imply, flat-more, empty-length}
+use Rattle.base.specs.Lists.{all, keep, flat, empty, member, begins, until}
+use Rattle.base.proofs.Bools.{and-parts}
+use Rattle.base.proofs.Lists.{all-both, all-imply, flat-more, empty-length}
+use Rattle.base.proofs.Members.{member-more}
 use Rattle.book.specs.Formula.{Formula, variableOf}
 use Rattle.book.specs.Text.{Piece, Token, literal, close, invalid, tokenOf, lineEnd, split, kept, linesOf, Header, header, malformed, headerOf}
 use Rattle.book.specs.Faults.{Fault, fault, opened, closed, written, notNumber, overVariables, wrongLength, repeated, surplus, unfinished, overLiterals, faultsAt, faultsFrom, outside, bodyOf, faultsUnder, faultsOf}
 use Rattle.book.specs.Reading.{maxText, before, earlier, least, onto, clausesIn, formulaUnder, formulaIn, Judged, refused, accepted, judged, readText}
 use Rattle.book.specs.Inner.Walk.{walk, tokensOf, walkUnder, walkLines}
-use Rattle.base.specs.Lists.{until}
 use Rattle.book.specs.Inner.Words.{others, wordsBehind}
 use Rattle.book.proofs.LineLaws.{split-first, behind-end, behind-byte}
 use Rattle.book.proofs.WordPlaces.{placesRise, Rises, rises}
@@ -117,17 +117,20 @@ unfolding judged
 judged-cond true p n found formula = refl
 judged-cond false p n found formula = refl
 
--- the answer at a word: the lowest number that applies there, else that of the faults behind it
-at-word : (variables clauses : ℕ) (past : List Token) (p : ℕ) (token : Token) (faults : List Fault) (formula : Formula)
-    → all (λ (f : Fault). ltb p (f .place)) faults ≡ true
-    → judged (least (faultsAt variables clauses past p token ++ faults)) formula
-    ≡ cond (notNumber token) (refused 4)
+-- the lowest number that applies at a word, else the answer behind it
+abbrev tests : ℕ → ℕ → List Token → Token → Judged → Judged
+tests variables clauses past token answer =
+    cond (notNumber token) (refused 4)
     (cond (overVariables variables token) (refused 5)
     (cond (wrongLength past token) (refused 6)
     (cond (repeated past token) (refused 7)
     (cond (surplus clauses past token) (refused 8)
-    (cond (overLiterals past token) (refused 9)
-    (judged (least faults) formula))))))
+    (cond (overLiterals past token) (refused 9) answer)))))
+
+at-word : (variables clauses : ℕ) (past : List Token) (p : ℕ) (token : Token) (faults : List Fault) (formula : Formula)
+    → all (λ (f : Fault). ltb p (f .place)) faults ≡ true
+    → judged (least (faultsAt variables clauses past p token ++ faults)) formula
+    ≡ tests variables clauses past token (judged (least faults) formula)
 unfolding faultsAt
 at-word variables clauses past p token faults formula h =
     rw (
@@ -238,22 +241,9 @@ Agrees variables clauses end words =
 places-tail : (from end : ℕ) (word : Piece) (words : List Piece) → placesRise from end (word ∷ words) ≡ true
     → placesRise (suc (word .place)) end words ≡ true
 unfolding placesRise
-places-tail from end word words h = go (leb from (word .place)) h
-  where
-    go : (b : Bool) → (b && placesRise (suc (word .place)) end words) ≡ true → placesRise (suc (word .place)) end words ≡ true
-    go true h = h
-    go false h = cc
+places-tail from end word words h = and-parts (leb from (word .place)) (placesRise (suc (word .place)) end words) h .1
 
 -- the tests at a word, by what the words before it hold, are the walk's
-abbrev tests : ℕ → ℕ → List Token → Token → Judged → Judged
-tests variables clauses past token answer =
-    cond (notNumber token) (refused 4)
-    (cond (overVariables variables token) (refused 5)
-    (cond (wrongLength past token) (refused 6)
-    (cond (repeated past token) (refused 7)
-    (cond (surplus clauses past token) (refused 8)
-    (cond (overLiterals past token) (refused 9) answer)))))
-
 module _ (variables clauses : ℕ) (past : List Token) (done : List (List ℕ)) (current : List ℕ) (held : Held past done current)
     (tokens : List Token) (answer : Judged) where
   tests-literal : (l : ℕ) → answer ≡ walk variables clauses done (current ++ (l ∷ [])) tokens

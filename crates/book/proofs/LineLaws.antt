@@ -4,15 +4,15 @@ use native.Mathlib.Nat.{add-zero}
 use native.Mathlib.Omega.{arith}
 use mathlib.Core.Path.{_≡_, refl, sym, ap, _∙_}
 use mathlib.Core.Bool.{Bool, true, false, cond}
-use mathlib.Core.List.{List, [], _∷_, _++_, map}
+use mathlib.Core.List.{List, [], _∷_, map}
 use lib.Dec.{eqb}
 use lib.ListN.{length, drop}
 use borrow.Author.Tests.{eqb-true, ne-eqb}
 use Rattle.base.specs.Lists.{keep, flat, empty, begins, until}
-use Rattle.base.proofs.Until.{until-stop, until-more}
+use Rattle.base.proofs.Until.{until-more}
 use Rattle.book.specs.Text.{Piece, blank, lineEnd, extend, split, kept, filled, wordsOf, linesOf, headerOf, headerIn, malformed}
 use Rattle.book.specs.Faults.{bodyOf}
-use Rattle.book.specs.Reading.{Judged, refused}
+use Rattle.book.specs.Reading.{refused}
 use Rattle.book.specs.Inner.Walk.{tokensOf, walkUnder, walkLines, walkStart}
 use Rattle.book.specs.Inner.Words.{others, wordsLine, wordsBehind, wordsHere, wordsStart, lineLength}
 
@@ -135,14 +135,6 @@ behind-word at (b ∷ t) = go (blank b) refl (behind-word (suc at) t)
     go false f ih = rw f (behind-byte at b t (word-not-end b f) ∙ ih
         ∙ ap (λ m. wordsBehind m (drop (length (until blank t)) t)) (omega arith))
 
-pub length-end : (b : ℕ) (t : List ℕ) → lineEnd b ≡ true → lineLength (b ∷ t) ≡ 1
-unfolding lineLength
-length-end b t h = rw h
-
-pub length-byte : (b : ℕ) (t : List ℕ) → lineEnd b ≡ false → lineLength (b ∷ t) ≡ suc (lineLength t)
-unfolding lineLength
-length-byte b t h = rw h
-
 pub start-none : (at : ℕ) → wordsStart at [] ≡ []
 unfolding wordsStart bodyOf split keep kept begins wordsOf filled empty flat
 start-none at = refl
@@ -223,12 +215,6 @@ pub walk-behind : (at : ℕ) (t : List ℕ) → begins 99 t ≡ false
     → walkStart at t ≡ walkUnder (headerOf (record { place = at; bytes = until lineEnd t })) (tokensOf (wordsBehind at t))
 unfolding walkStart walkLines keep kept wordsBehind
 walk-behind at t h = rw (split-first, line-begins 99 t not-comment, h)
-
-pub walk-header : (at : ℕ) (t : List ℕ) → begins 99 t ≡ false
-    → walkStart at t ≡ walkUnder (headerOf (record { place = at; bytes = until lineEnd t }))
-    (tokensOf (wordsStart (at + lineLength t) (drop (lineLength t) t)))
-walk-header at t h = walk-behind at t h
-    ∙ ap (λ ws. walkUnder (headerOf (record { place = at; bytes = until lineEnd t })) (tokensOf ws)) (behind-next at t)
 
 pub walk-skipped : (at : ℕ) (t : List ℕ) → begins 99 t ≡ true → walkStart at t ≡ walkStart (at + lineLength t) (drop (lineLength t) t)
 unfolding walkStart keep kept split walkLines

@@ -10,7 +10,8 @@ use lib.Dec.{eqb}
 use lib.ListN.{length, getD, set, replicate, length-set, length-replicate}
 use lib.Seq.{getD-set-same, getD-set-other}
 use Rattle.base.specs.Lists.{member}
-use Rattle.base.proofs.Lists.{member-more, getD-alike}
+use Rattle.base.proofs.Lists.{getD-alike}
+use Rattle.base.proofs.Members.{member-more}
 use Rattle.book.specs.Inner.Marks.{Bounded, Marked}
 
 -- fresh marks are all 0

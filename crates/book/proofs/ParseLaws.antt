@@ -1,19 +1,18 @@
 -- A whole text: the limits of the header, and the book numbers of the clauses read.
-use Prim.Native.Nat.{ℕ, zero, suc, _+_, _≤_, _<_}
-use mathlib.Core.Path.{_≡_, refl, ap, sym, _∙_}
-use mathlib.Core.Bool.{Bool, true, false, _||_, or-true}
-use mathlib.Core.List.{List, [], _∷_, _++_, append-nil}
+use Prim.Native.Nat.{ℕ, suc, _+_, _≤_, _<_}
+use mathlib.Core.Path.{_≡_, ap, sym, _∙_}
+use mathlib.Core.Bool.{true, false, or-true}
+use mathlib.Core.List.{List, [], _∷_, append-nil}
 use native.Mathlib.Omega.{arith}
 use borrow.Author.Tests.{eq-eqb, ne-eqb, lt-ltb, le-ltb}
-use lib.Dec.{eqb, ltb}
 use lib.ListN.{length, take, drop, set}
 use lib.Seq.{take-add}
 use Rattle.base.specs.Lists.{flat}
-use Rattle.book.specs.Formula.{Formula, literals, maxVariables, maxClauses}
+use Rattle.book.specs.Formula.{maxVariables, maxClauses}
 use Rattle.book.specs.Numbers.{starts, numbersOf}
 use Rattle.book.specs.Text.{Token, linesOf, header}
 use Rattle.book.specs.Faults.{outside}
-use Rattle.book.specs.Reading.{Judged, refused}
+use Rattle.book.specs.Reading.{refused}
 use Rattle.book.specs.Inner.Walk.{walk, walkUnder, walkStart, walkLines}
 use Rattle.book.specs.Inner.Steps.{LineStart}
 use Rattle.book.specs.Inner.Bodies.{Written}

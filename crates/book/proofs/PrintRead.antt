@@ -8,23 +8,22 @@ use lib.Dec.{eqb}
 use lib.ListN.{length}
 use lib.Seq.{drop-append-seam}
 use borrow.Author.Tests.{le-ltb, ne-eqb, eqb-true, eqb-false, not-true}
-use Rattle.base.specs.Lists.{all, flat, same, begins}
+use Rattle.base.specs.Lists.{all, flat, same, begins, until}
 use Rattle.base.proofs.Bools.{and-parts}
-use Rattle.base.proofs.AllFlat.{all-imply}
-use Rattle.book.specs.Formula.{Formula, maxVariables, maxClauses, literalWithin, soundClause, sound}
+use Rattle.base.proofs.Lists.{all-imply}
+use Rattle.base.proofs.Until.{until-more, until-stop}
+use Rattle.book.specs.Formula.{Formula, maxVariables, literalWithin, soundClause, sound}
 use Rattle.book.specs.Text.{Piece, Token, literal, blank, lineEnd, decimal, unsigned, isDigit, unsignedToken, negativeToken, tokenOf, header, headed, headerIn, headerOf}
-use Rattle.book.specs.Faults.{outside}
 use Rattle.book.specs.Reading.{maxText, accepted, readText}
 use Rattle.book.specs.Printer.{printNumber, printLiteral, printClause, printText}
-use Rattle.book.specs.Inner.Walk.{tokensOf, walkUnder}
-use Rattle.base.proofs.Until.{until-more, until-stop}
-use Rattle.base.specs.Lists.{until}
-use Rattle.book.specs.Inner.Walk.{walkStart}
+use Rattle.book.specs.Inner.Walk.{tokensOf, walkUnder, walkStart}
 use Rattle.book.specs.Inner.Words.{wordsLine, wordsBehind, wordsHere, wordsStart}
 use Rattle.book.proofs.LineLaws.{line-word, line-blank, line-end, word-not-end, behind-byte, behind-end, start-plain, start-none, walk-behind, walk-lines, header-line}
 use Rattle.book.proofs.LeastFault.{read-is-walk}
 use Rattle.book.proofs.SoundLaws.{literal-parts, clause-parts, FormulaParts, formula-parts}
 use Rattle.book.proofs.WalkAccepts.{clauseTokens, tokensFor, clauses-walk}
+use Rattle.book.proofs.ParseLaws.{within-limits}
+use Rattle.book.proofs.DecimalLaws.{token-plain}
 use Rattle.book.proofs.Digits.{number-printed, printed-unsigned, digit-not-blank, digits-begin}
 
 -- a word: bytes that are no blanks, and at least one
@@ -112,11 +111,6 @@ literal-word l h = go (eqb (l % 2) 1) (number-word (l / 2) h)
     go true word = signed-word (printNumber (l / 2)) word
     go false word = word
 
-unsigned-word : (w : List ℕ) → begins 45 w ≡ false → tokenOf w ≡ unsignedToken w
-unfolding tokenOf begins unsignedToken unsigned
-unsigned-word [] h = refl
-unsigned-word (b ∷ w) h = rw h
-
 begins-append : (b : ℕ) (w t : List ℕ) → 1 ≤ length w → begins b (w ++ t) ≡ begins b w
 unfolding begins
 begins-append b [] t h = absurd (omega arith)
@@ -149,7 +143,7 @@ module _ (l : ℕ) (low : 2 ≤ l) (high : l / 2 < 1000000000) where
       go true e = negative-token (eqb-true (l % 2) 1 e)
       go false e =
           let other = eqb-false (l % 2) 1 e in
-          unsigned-word (printNumber (l / 2)) (number-begins 45 (l / 2) high refl) ∙ positive-token (even other)
+          token-plain (printNumber (l / 2)) (number-begins 45 (l / 2) high refl) ∙ positive-token (even other)
 
 literal-begins : (l : ℕ) (t : List ℕ) → l / 2 < 1000000000 → begins 99 (printLiteral l ++ t) ≡ false
 unfolding printLiteral isDigit begins
@@ -247,12 +241,6 @@ module _ (variables clauses : ℕ) (v : variables < 1000000000) (c : clauses < 1
         number-printed clauses c .number-back,
       )
 
-header-inside : (variables clauses : ℕ) → 1 ≤ variables → variables ≤ maxVariables → clauses ≤ maxClauses
-    → outside variables clauses ≡ false
-unfolding outside
-header-inside variables clauses some v c =
-    rw (ne-eqb variables 0 (λ z. omega arith), le-ltb maxVariables variables v, le-ltb maxClauses clauses c)
-
 text-begins : (formula : Formula) → begins 112 (printText formula) ≡ true
 unfolding printText begins
 text-begins formula = refl
@@ -283,7 +271,7 @@ module _ (formula : Formula) (p : FormulaParts formula) where
       ∙ rw (
         text-header,
         text-lined .tokens-behind 0,
-        header-inside (formula .variables) (length (formula .clauses)) (p .some-variable) (p .few-variables) (p .few-clauses),
+        within-limits (formula .variables) (length (formula .clauses)) (λ z. omega arith) (p .few-variables) (p .few-clauses),
       )
       (clauses-walk (formula .variables) (length (formula .clauses)) [] (formula .clauses) (omega arith) (p .sound-clauses) (omega arith))
 

@@ -8,8 +8,8 @@ use lib.ListN.{length, length-append}
 use borrow.Author.Tests.{le-ltb, lt-leb, eq-eqb, ne-eqb}
 use Rattle.base.specs.Lists.{all, flat, empty, member}
 use Rattle.base.proofs.Bools.{and-parts}
-use Rattle.base.proofs.AllFlat.{all-middle, flat-more, empty-false}
-use Rattle.base.proofs.Repeats.{distinct-middle}
+use Rattle.base.proofs.Lists.{all-middle, flat-more, empty-false}
+use Rattle.base.proofs.Members.{distinct-middle}
 use Rattle.book.specs.Formula.{variableOf, maxLiterals, maxClause, literalWithin, soundClause}
 use Rattle.book.specs.Text.{Token, literal, close}
 use Rattle.book.specs.Reading.{accepted}

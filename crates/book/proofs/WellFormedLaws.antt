@@ -1,18 +1,18 @@
 -- The form of book numbers taken apart: what well-formed numbers are, and that they are the numbers of a sound formula.
 use Prim.Native.Nat.{ℕ, _+_, _≤_, _<_}
 use mathlib.Core.Bool.{true, false}
-use mathlib.Core.List.{List, []}
-use mathlib.Core.Path.{_≡_, sym, _∙_, ap}
+use mathlib.Core.List.{List}
+use mathlib.Core.Path.{_≡_, _∙_}
 use native.Mathlib.Omega.{arith}
 use borrow.Author.Tests.{leb-true, le-leb, eqb-true, eq-eqb}
 use lib.Dec.{leb, eqb}
 use lib.ListN.{length, take}
 use Rattle.base.specs.Lists.{all, flat}
 use Rattle.base.proofs.Bools.{and-five, and-last, refuted}
-use Rattle.base.proofs.Lists.{all-at}
-use Rattle.book.specs.Formula.{soundClause, sound, maxVariables, maxClauses, maxLiterals}
+use Rattle.book.specs.Formula.{soundClause, sound, maxClauses, maxLiterals}
 use Rattle.book.specs.Numbers.{variablesOf, clausesOf, literalsOf, startOf, clauseAt, clausesFrom, formulaOf, numbersOf, rising, wellFormed}
 use Rattle.book.specs.Inner.Form.{Parted}
+use Rattle.book.proofs.SoundLaws.{formula-parts, clauses-decide-sound, clause-of-sound}
 use Rattle.book.proofs.PartLaws.{length-clauses, clause-of-formula, length-literals, numbers-parted}
 
 -- V, C and L within their limits
@@ -26,7 +26,7 @@ module _ (numbers : List ℕ) where
   -- of parted numbers within the limits the clauses decide
   pub clauses-decide : Parted numbers → Limited numbers
       → wellFormed numbers ≡ all (soundClause (variablesOf numbers)) (clausesFrom numbers 0 (clausesOf numbers))
-  unfolding wellFormed sound
+  unfolding wellFormed
   clauses-decide parted limited =
       let few : length (clausesFrom numbers 0 (clausesOf numbers)) ≤ maxClauses =
       rw (length-clauses numbers 0 (clausesOf numbers)) (limited .clauses) in
@@ -38,12 +38,7 @@ module _ (numbers : List ℕ) where
       (eq-eqb _ _ (parted .first))
       (eq-eqb _ _ (parted .last))
       (parted .rises)
-      ∙ and-last
-      (all (soundClause (variablesOf numbers)) (clausesFrom numbers 0 (clausesOf numbers)))
-      (le-leb _ _ (limited .some-variables))
-      (le-leb _ _ (limited .variables))
-      (le-leb _ _ few)
-      (le-leb _ _ short)
+      ∙ clauses-decide-sound (formulaOf numbers) (limited .some-variables) (limited .variables) few short
 
   module _ (well : wellFormed numbers ≡ true) where
     parts : (leb (clausesOf numbers + literalsOf numbers + 4) (length numbers) ≡ true)
@@ -74,39 +69,21 @@ module _ (numbers : List ℕ) where
     pub well-formed-sound : sound (formulaOf numbers) ≡ true
     well-formed-sound = parts .4
 
-    limits : (leb 1 (variablesOf numbers) ≡ true)
-        × (leb (variablesOf numbers) maxVariables ≡ true)
-        × (leb (length (clausesFrom numbers 0 (clausesOf numbers))) maxClauses ≡ true)
-        × (leb (length (flat (clausesFrom numbers 0 (clausesOf numbers)))) maxLiterals ≡ true)
-        × (all (soundClause (variablesOf numbers)) (clausesFrom numbers 0 (clausesOf numbers)) ≡ true)
-    unfolding sound
-    limits =
-        and-five
-        (leb 1 (variablesOf numbers))
-        (leb (variablesOf numbers) maxVariables)
-        (leb (length (clausesFrom numbers 0 (clausesOf numbers))) maxClauses)
-        (leb (length (flat (clausesFrom numbers 0 (clausesOf numbers)))) maxLiterals)
-        (all (soundClause (variablesOf numbers)) (clausesFrom numbers 0 (clausesOf numbers)))
-        well-formed-sound
-
     pub well-formed-limited : Limited numbers
     well-formed-limited =
-        let few : length (clausesFrom numbers 0 (clausesOf numbers)) ≤ maxClauses = leb-true _ _ (limits .2) in
-        let short : length (flat (clausesFrom numbers 0 (clausesOf numbers))) ≤ maxLiterals = leb-true _ _ (limits .3) in
+        let parts = formula-parts (formulaOf numbers) well-formed-sound in
         record {
-          some-variables = leb-true _ _ (limits .0);
-          variables = leb-true _ _ (limits .1);
-          clauses = omega (arith, length-clauses numbers 0 (clausesOf numbers));
-          literals = omega (arith, length-literals numbers well-formed-parted);
+          some-variables = parts .some-variable;
+          variables = parts .few-variables;
+          clauses = omega (arith, length-clauses numbers 0 (clausesOf numbers), parts .few-clauses);
+          literals = omega (arith, length-literals numbers well-formed-parted, parts .few-literals);
         }
 
     -- each clause of well-formed numbers is sound
     pub well-formed-clause : (c : ℕ) → c < clausesOf numbers → soundClause (variablesOf numbers) (clauseAt numbers c) ≡ true
     well-formed-clause c h =
-        let inside : c < length (clausesFrom numbers 0 (clausesOf numbers)) =
-        omega (arith, length-clauses numbers 0 (clausesOf numbers)) in
-        ap (soundClause (variablesOf numbers)) (sym (clause-of-formula numbers c h))
-        ∙ all-at (soundClause (variablesOf numbers)) (clausesFrom numbers 0 (clausesOf numbers)) [] (limits .4) c inside
+        rw (clause-of-formula numbers c h) at
+        (clause-of-sound (formulaOf numbers) well-formed-sound c (omega (arith, length-clauses numbers 0 (clausesOf numbers))))
 
     -- well-formed numbers up to C + L + 4 are those of the formula that they hold
     pub well-formed-numbers : take (clausesOf numbers + literalsOf numbers + 4) numbers ≡ numbersOf (formulaOf numbers)

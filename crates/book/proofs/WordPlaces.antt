@@ -8,10 +8,9 @@ use mathlib.Core.List.{List, [], _∷_}
 use lib.Dec.{leb}
 use lib.ListN.{length, drop}
 use borrow.Author.Tests.{leb-true, le-leb}
-use Rattle.base.specs.Lists.{begins}
+use Rattle.base.specs.Lists.{begins, until}
 use Rattle.book.specs.Text.{Piece, blank, lineEnd}
 use Rattle.base.proofs.Until.{until-more, until-none, until-stop}
-use Rattle.base.specs.Lists.{until}
 use Rattle.book.specs.Inner.Words.{wordsBehind, wordsHere, wordsStart}
 use Rattle.book.proofs.LineLaws.{behind-none, behind-end, behind-byte, start-none, here-none, here-end, here-blank, here-word, start-plain, start-behind}
 

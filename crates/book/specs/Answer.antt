@@ -4,7 +4,7 @@ use mathlib.Core.Bool.{cond}
 use mathlib.Core.List.{List, _++_}
 use lib.Dec.{ltb}
 use lib.ListN.{length, drop}
-use Rattle.book.specs.Formula.{Formula, literals}
+use Rattle.book.specs.Formula.{literals}
 use Rattle.book.specs.Numbers.{numbersOf}
 use Rattle.book.specs.Reading.{Judged, refused, accepted}
 use Rattle.book.specs.declared.Reading.{Reading}

@@ -1,12 +1,11 @@
 -- What reading a text gives: the refusal by document 01's table, or the formula, and the numbers written.
-use Prim.Native.Nat.{ℕ, _+_}
-use mathlib.Core.Bool.{Bool, true, false, cond, _&&_, _||_}
-use mathlib.Core.List.{List, [], _∷_, _++_, map}
+use Prim.Native.Nat.{ℕ}
+use mathlib.Core.Bool.{Bool, cond, _&&_, _||_}
+use mathlib.Core.List.{List, [], _∷_, map}
 use mathlib.Core.Option.{Option, none, some}
 use lib.Dec.{leb, ltb, eqb}
-use lib.ListN.{length, drop}
-use Rattle.book.specs.Formula.{Formula, literals}
-use Rattle.book.specs.Numbers.{numbersOf}
+use lib.ListN.{length}
+use Rattle.book.specs.Formula.{Formula}
 use Rattle.book.specs.Text.{Piece, Token, literal, close, invalid, tokenOf, linesOf, Header, header, malformed, headerOf}
 use Rattle.book.specs.Faults.{Fault, faultsOf, bodyOf}
 

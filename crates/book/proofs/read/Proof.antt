@@ -1,7 +1,6 @@
 -- `read` meets its contract: each way out is a case of the answer. Assumes nothing.
-use mathlib.Core.Path.{refl, subst, sym, _∙_}
+use mathlib.Core.Path.{subst, sym}
 use native.Mathlib.Omega.{arith}
-use lib.ListN.{length}
 use Rattle.book.specs.Inner.Bodies.{ParsedSays, Read}
 use Rattle.book.proofs.FaultLaws.{too-long}
 use Rattle.book.proofs.ReadLaws.{answer-refused, read-walked, read-short, read-book}

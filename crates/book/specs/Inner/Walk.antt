@@ -1,11 +1,11 @@
 -- The walk over the words that the reader's code makes: the definition of the answer that its invariants speak of.
 use Prim.Native.Nat.{ℕ, _+_}
-use mathlib.Core.Bool.{Bool, true, false, cond, _&&_}
+use mathlib.Core.Bool.{cond, _&&_}
 use mathlib.Core.List.{List, [], _∷_, _++_, map}
 use lib.Dec.{leb, ltb, eqb}
 use lib.ListN.{length}
 use Rattle.base.specs.Lists.{flat, empty, member, keep}
-use Rattle.book.specs.Formula.{Formula, variableOf, maxClause, maxLiterals}
+use Rattle.book.specs.Formula.{variableOf, maxClause, maxLiterals}
 use Rattle.book.specs.Text.{Piece, Token, literal, close, invalid, tokenOf, lineEnd, split, kept, Header, header, malformed, headerOf}
 use Rattle.book.specs.Faults.{bodyOf, outside}
 use Rattle.book.specs.Reading.{Judged, refused, accepted}

@@ -1,11 +1,9 @@
 -- `clauses_at` meets its contract: the state of the loop is `Going`, and each token makes a step of it. Assumes nothing.
-use Prim.Native.Nat.{ℕ, _-_}
-use mathlib.Core.Path.{subst, sym}
-use mathlib.Core.List.{List}
+use Prim.Native.Nat.{_-_}
+use mathlib.Core.Path.{subst}
 use native.Mathlib.Omega.{arith}
 use borrow.Author.Needs.{needs}
-use lib.ListN.{length, set}
-use Rattle.book.specs.Formula.{variableOf}
+use lib.ListN.{length}
 use Rattle.book.specs.Inner.Steps.{Stepped}
 use Rattle.book.proofs.GoingLaws.{Going, going-start, going-invalid, going-open, going-few, going-all, going-short, going-close, going-fault, total-below, going-literal}
 use Rattle.book.proofs.body.clauses_at.Statement.{statement}

@@ -1,9 +1,8 @@
 -- `line_end` meets its contract: the run of bytes from here on ends where the whole run ends. Assumes nothing.
 use Prim.Native.Nat.{_-_}
-use mathlib.Core.Path.{sym, _∙_}
 use borrow.Author.Needs.{needs}
 use borrow.Author.Tests.{eq-eqb, ne-eqb}
-use lib.ListN.{length, getD}
+use lib.ListN.{length}
 use Rattle.base.proofs.Until.{Running, running-start, running-step, running-stop, running-end}
 use Rattle.book.specs.Text.{lineEnd}
 use Rattle.book.proofs.bytes.line_end.Statement.{statement}

@@ -1,6 +1,6 @@
 -- `token` meets its contract: each return is a case of the word's token. Assumes nothing.
 use Prim.Native.Nat.{_-_}
-use mathlib.Core.Path.{_≡_, sym, _∙_, subst}
+use mathlib.Core.Path.{_≡_, sym, _∙_}
 use mathlib.Core.List.{List}
 use Prim.Native.Nat.{ℕ}
 use native.Mathlib.Omega.{arith}
@@ -8,7 +8,6 @@ use lib.ListN.{length, take, drop, length-drop}
 use lib.Seq.{take-all}
 use Rattle.book.specs.Inner.Steps.{digitsOf}
 use Rattle.book.specs.declared.bytes.Digits.{Digits}
-use Rattle.book.specs.declared.bytes.Digits.the-variants.{Value, Invalid}
 use Rattle.book.proofs.DecimalLaws.{value-below, token-signed, token-unsigned, token-empty, not-digits, zero-digits, some-digits}
 use borrow.Author.Needs.{needs}
 use Rattle.book.proofs.bytes.token.Statement.{statement}

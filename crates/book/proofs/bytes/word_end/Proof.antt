@@ -2,8 +2,7 @@
 use Prim.Native.Nat.{_-_}
 use mathlib.Core.Path.{sym, _∙_}
 use borrow.Author.Needs.{needs}
-use borrow.Author.Tests.{eq-eqb, ne-eqb}
-use lib.ListN.{length, getD}
+use lib.ListN.{length}
 use Rattle.base.proofs.Until.{Running, running-start, running-step, running-stop, running-end}
 use Rattle.book.specs.Text.{blank}
 use Rattle.book.proofs.bytes.word_end.Statement.{statement}

@@ -1,6 +1,5 @@
 -- `line_start` meets its contract: the lines passed are skipped ones. Assumes nothing.
 use Prim.Native.Nat.{_-_}
-use native.Mathlib.Omega.{arith}
 use borrow.Author.Needs.{needs}
 use lib.ListN.{length}
 use Rattle.book.proofs.CursorLaws.{Skipped, skipped-none, skipped-line, line-falls, line-starts, line-starts-last}

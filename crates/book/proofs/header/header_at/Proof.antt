@@ -1,12 +1,12 @@
 -- `header_at` meets its contract: each way out says which word of the header fails, or that all pass. Assumes nothing.
-use mathlib.Core.Path.{_≡_, ap₂, sym, _∙_, subst}
-use mathlib.Core.List.{List, [], _∷_}
+use mathlib.Core.Path.{_≡_, ap₂, _∙_, subst}
+use mathlib.Core.List.{[], _∷_}
 use native.Mathlib.Omega.{arith}
 use borrow.Author.Tests.{eq-eqb, ne-eqb}
 use Rattle.book.specs.Text.{header, unsigned, decimal}
 use Rattle.book.specs.Inner.Steps.{SteppedInLine}
 use Rattle.book.specs.Inner.Heads.{WordPasses, KeywordSays, FieldSays}
-use Rattle.book.proofs.CursorLaws.{begins-at, begins-end}
+use Rattle.base.proofs.Lists.{begins-at, begins-end}
 use Rattle.book.proofs.HeaderLaws.{isP, isCnf, first-fails, second-fails, third-fails, fourth-fails, fifth-word, well-headed, tokens-behind, malformed-first, malformed-words, well-formed-header}
 use borrow.Author.Needs.{needs}
 use Rattle.book.proofs.header.header_at.Statement.{statement}

@@ -1,11 +1,11 @@
 -- `copy` meets its contract: the first i numbers are copied. Assumes nothing.
 use Prim.Native.Nat.{_-_, _≤_}
 use mathlib.Core.Path.{_≡_, ap, _∙_}
-use mathlib.Core.List.{List, _++_}
+use mathlib.Core.List.{_++_}
 use Prim.Native.Nat.{ℕ}
 use native.Mathlib.Omega.{arith}
 use borrow.Author.Needs.{needs}
-use lib.ListN.{length, take, drop}
+use lib.ListN.{take, drop}
 use Rattle.base.proofs.Copies.{Copied, copied-none, copied-more, length-copied}
 use Rattle.book.proofs.parse.copy.Statement.{statement}
 use Rattle.book.proofs.parse.copy.Tie as tie
