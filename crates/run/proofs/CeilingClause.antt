@@ -9,7 +9,7 @@ use mathlib.Core.Option.{some}
 use lib.Dec.{eqb, ltb}
 use lib.ListN.{length, getD}
 use borrow.Author.Tests.{eqb-true, ltb-true, ltb-false}
-use Rattle.base.proofs.Tests.{either, never}
+use Rattle.base.proofs.Bools.{either, never}
 use Rattle.run.specs.Trail.{Entry, opposite, isTrue, isFalse}
 use Rattle.run.specs.Scan.{Cell, watched, scan}
 use Rattle.run.specs.Run.{otherWatch, moved, Action, stays, moves, implies, conflicts, action}

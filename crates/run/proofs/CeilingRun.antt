@@ -9,8 +9,8 @@ use lib.Dec.{eqb}
 use lib.ListN.{length, getD}
 use lib.Seq.{getD-set-same, getD-set-other}
 use borrow.Author.Tests.{eqb-true, eqb-false, ne-eqb}
-use Rattle.base.proofs.Tests.{never}
-use Rattle.base.proofs.Updates.{getD-set-cases}
+use Rattle.base.proofs.Bools.{never}
+use Rattle.base.proofs.Lists.{getD-set-cases}
 use Rattle.book.specs.Formula.{Formula}
 use Rattle.run.specs.Run.{Run, clauseOf, size, noCell, cellOf, maxCount, addChecks, moved, Action, stays, moves, implies, conflicts, action, onTrail, withWatches, withConflict, counted, perform, visit, inConflict}
 use Rattle.run.specs.Ceiling.{checksOf, ceiling}

@@ -9,7 +9,7 @@ use borrow.Author.Tests.{eqb-true, eq-eqb, not-false, leb-true, leb-false}
 use lib.Dec.{leb, eqb}
 use lib.ListN.{getD}
 use Rattle.base.specs.Lists.{member}
-use Rattle.base.proofs.Tests.{alike, decided, never, either}
+use Rattle.base.proofs.Bools.{alike, decided, never, either}
 use Rattle.base.proofs.Members.{position, member-at}
 use Rattle.book.specs.Formula.{Formula, sound}
 use Rattle.run.specs.Trail.{Entry, opposite, place, isTrue, isFalse, decisions}

@@ -12,7 +12,7 @@ use lib.ListN.{length, getD, set, replicate, length-set, length-map, length-repl
 use lib.Seq.{getD-set-same, getD-set-other}
 use Rattle.base.specs.Lists.{member, distinct, times}
 use Rattle.base.proofs.Lists.{getD-alike}
-use Rattle.base.proofs.Tests.{alike, never}
+use Rattle.base.proofs.Bools.{alike, never}
 use Rattle.base.proofs.Members.{position, member-at, times-same, times-other}
 use Rattle.book.specs.Formula.{Formula, sound}
 use Rattle.run.specs.Trail.{Entry, opposite, place, isTrue, isFalse, decisions}
@@ -20,7 +20,7 @@ use Rattle.run.specs.Scan.{Cell}
 use Rattle.run.specs.Run.{Run, clauseOf, size, noCell, listOf, pushFront, onTrail, withConflict, inConflict, firstCell, watchAll, fresh, assignUnit, assignUnits}
 use Rattle.run.specs.Valid.{one, Reason}
 use Rattle.run.proofs.Trails.{true-place, untrue-place, place-new, level-within, undecided-lowered, decided-count}
-use Rattle.run.proofs.Clauses.{clause-exists, within-bounds, literal-within}
+use Rattle.run.proofs.Clauses.{clause-exists, literal-within, literal-listed}
 use Rattle.run.proofs.WatchLists.{secondLiteral, firstLiteral, Watched, cellAt, among}
 use Rattle.run.proofs.Settling.{old-stays, Structure, structure-valid, Going, Ended, quiet-out}
 use Rattle.run.proofs.Visits.{trailed-push}
@@ -148,15 +148,12 @@ module _ (formula : Formula) (s : sound formula ≡ true) where
   unfolding firstCell
   first-small clause h = rw (lt-leb 2 (length clause) h)
 
-  within-lists : (c i : ℕ) → i < size formula c → getD (clauseOf formula c) i 0 < 2 * formula .variables + 2
-  within-lists c i h = omega (arith, within-bounds (formula .variables) (getD (clauseOf formula c) i 0) (literal-within formula s c i h))
-
   lists-count : (l c : ℕ) → times c (listOf lists l) ≡ first-stands l (clauseOf formula c)
   unfolding times
   lists-count l c =
       watch-all-times 0 (formula .clauses) (replicate (2 * formula .variables + 2) []) l c
       (λ i h. rw (length-replicate {A = List ℕ} (2 * formula .variables + 2) [])
-      (within-lists i 0 (omega arith), within-lists i 1 (omega arith)))
+      (literal-listed formula s i 0 (omega arith), literal-listed formula s i 1 (omega arith)))
       ∙ ap₂ _+_ (ap (times c) (getD-alike (2 * formula .variables + 2) l []))
       (ap (standing-from 0 (formula .clauses) l) (sym (zero-add c)) ∙ standing-at 0 (formula .clauses) l c)
       ∙ zero-add (first-stands l (clauseOf formula c))

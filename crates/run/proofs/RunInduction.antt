@@ -8,7 +8,7 @@ use mathlib.Core.Logic.{_⊎_, inl, inr, ⊎-elim}
 use lib.Dec.{eqb}
 use lib.ListN.{length, getD}
 use borrow.Author.Tests.{eqb-true}
-use Rattle.base.proofs.Tests.{never}
+use Rattle.base.proofs.Bools.{never}
 use Rattle.book.specs.Formula.{Formula, sound}
 use Rattle.run.specs.Trail.{isTrue, isFalse}
 use Rattle.run.specs.Run.{Run, listOf, onTrail, withConflict, visit, inConflict, propagate, fresh, assignUnit, assignUnits, openRun, decide, backtrack}

@@ -8,7 +8,7 @@ use mathlib.Core.Path.{_≡_, sym, _∙_}
 use borrow.Author.Tests.{eq-eqb}
 use lib.ListN.{length, getD}
 use Rattle.base.specs.Lists.{member, distinct, times}
-use Rattle.base.proofs.Tests.{decided}
+use Rattle.base.proofs.Bools.{decided}
 use Rattle.book.specs.Formula.{Formula, literalWithin}
 use Rattle.run.specs.Trail.{Entry, opposite, place, isTrue, isFalse, decisions, level, lowered}
 use Rattle.run.specs.Scan.{Cell}

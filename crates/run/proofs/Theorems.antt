@@ -9,7 +9,7 @@ use borrow.Author.Tests.{eqb-true, ne-eqb}
 use lib.Dec.{eqb}
 use lib.ListN.{length, getD, drop}
 use Rattle.base.specs.Lists.{all, member}
-use Rattle.base.proofs.Tests.{never, same-test}
+use Rattle.base.proofs.Bools.{never, same-test}
 use Rattle.book.specs.Formula.{Formula, sound}
 use Rattle.run.specs.Trail.{Entry, isTrue, isFalse, decisions, cut}
 use Rattle.run.specs.Scan.{Cell}

@@ -10,8 +10,7 @@ use borrow.Author.Tests.{eqb-true, eqb-false, eq-eqb, ne-eqb, not-true, not-fals
 use lib.Dec.{eqb}
 use lib.ListN.{length, drop, length-drop}
 use Rattle.base.specs.Lists.{member, distinct}
-use Rattle.base.proofs.Bools.{and-parts}
-use Rattle.base.proofs.Tests.{alike, below, either, never}
+use Rattle.base.proofs.Bools.{and-parts, alike, below, either, never}
 use Rattle.book.specs.Formula.{variableOf}
 use Rattle.run.specs.Trail.{Entry, opposite, place, literalAt, isTrue, decisions, level, lowered, cut}
 

@@ -9,17 +9,16 @@ use borrow.Author.Tests.{eqb-true, eq-eqb, le-leb, leb-true, leb-false, not-fals
 use lib.Dec.{leb, eqb}
 use lib.ListN.{length, length-map}
 use Rattle.base.specs.Lists.{distinct, times}
-use Rattle.base.proofs.Bools.{and-parts}
-use Rattle.base.proofs.Tests.{never, neither-left, neither-right}
+use Rattle.base.proofs.Bools.{and-parts, never, neither-left, neither-right}
 use Rattle.base.proofs.Pigeonhole.{pigeonhole}
 use Rattle.book.specs.Formula.{Formula, variableOf, literalWithin, sound}
+use Rattle.book.proofs.SoundLaws.{literal-parts}
 use Rattle.run.specs.Trail.{Entry, opposite, place, literalAt, isTrue, isFalse, isAssigned, decisions, lowered, cut}
 use Rattle.run.specs.Scan.{Cell}
 use Rattle.run.specs.Run.{Run, size, listOf, onTrail, visit, inConflict, propagateFrom, propagate, decide, backtrack}
 use Rattle.run.specs.Calls.{decideRefusal, backtrackRefusal, maxBacktracks}
 use Rattle.run.specs.Valid.{one, Justified, Valid}
 use Rattle.run.proofs.Trails.{opposite-opposite, opposite-injective, untrue-place, place-of-literal, place-injective, variables, variable-on, place-true, Suffix, whole, newer, suffix-distinct, lowered-cases, lowered-suffix, lowered-count, suffix-true, cut-suffix}
-use Rattle.run.proofs.Clauses.{within-bounds}
 use Rattle.run.proofs.WatchLists.{secondLiteral, firstLiteral, among}
 use Rattle.run.proofs.Inductions.{read-induction, nextRead, readNext, propagate-induction, enough-fuel}
 use Rattle.run.proofs.Settling.{Guard, Kept, Pending, pending-push, pending-lowered, unsettle, Trailed, valid-structure, Going, Ended, Reading, quiet-out, going-valid}
@@ -33,7 +32,7 @@ trail-short {formula} {trail} t =
   where
     within : (x : ℕ) → (l : ℕ) × (0 < place trail l) × (variableOf l ≡ x) → (1 ≤ x) × (x ≤ formula .variables)
     within x k =
-        let w = within-bounds (formula .variables) (k .0) (t .within (k .0) (place-true trail (k .0) (k .1))) in
+        let w = literal-parts (formula .variables) (k .0) (t .within (k .0) (place-true trail (k .0) (k .1))) in
         let e : k .0 / 2 ≡ x = k .2 in
         (omega arith, omega arith)
 

@@ -10,8 +10,8 @@ use borrow.Author.Tests.{ne-eqb}
 use lib.Dec.{eqb}
 use lib.ListN.{length, getD, set, length-set}
 use Rattle.base.specs.Lists.{member, distinct, times}
-use Rattle.base.proofs.Tests.{alike, never, both}
-use Rattle.base.proofs.Updates.{getD-set-cases}
+use Rattle.base.proofs.Bools.{alike, never, both}
+use Rattle.base.proofs.Lists.{getD-set-cases}
 use Rattle.base.proofs.Members.{position, member-at, times-same, times-other}
 use Rattle.book.specs.Formula.{Formula, literalWithin, sound}
 use Rattle.run.specs.Trail.{Entry, opposite, place, isTrue, isFalse, decisions, level, lowered}

@@ -10,13 +10,13 @@ use lib.Dec.{leb, eqb}
 use lib.ListN.{length, getD, set, length-set, List·getD-eq-default}
 use lib.Seq.{getD-set-same, getD-set-other}
 use Rattle.base.specs.Lists.{times}
-use Rattle.base.proofs.Tests.{alike, below, neither-left, neither-right}
+use Rattle.base.proofs.Bools.{alike, below, neither-left, neither-right}
 use Rattle.base.proofs.Members.{times-same, times-other, times-kept, times-kept-out}
 use Rattle.book.specs.Formula.{Formula, variableOf, sound}
 use Rattle.run.specs.Scan.{Cell, watched}
 use Rattle.run.specs.Run.{clauseOf, size, noCell, listOf, pushFront, without, takeOut, otherWatch, moved}
 use Rattle.run.specs.Valid.{Watching, one}
-use Rattle.run.proofs.Clauses.{clause-exists, within-bounds, literal-within, literals-apart}
+use Rattle.run.proofs.Clauses.{clause-exists, literal-listed, literals-apart}
 
 abbrev pub cellAt : List Cell → ℕ → Cell
 cellAt cells c = getD cells c noCell
@@ -310,7 +310,7 @@ module _ (formula : Formula) (s : sound formula ≡ true) (cells : List Cell) (l
   q-within = list-exists lists q c in-list
 
   m-within : m < length lists
-  m-within = omega (arith, w .lists-length, within-bounds (formula .variables) m (literal-within formula s c position within))
+  m-within = omega (arith, w .lists-length, literal-listed formula s c position within)
 
   pub moved-times : (l d : ℕ) → (d ≡ c → ⊥) → times d (listOf (pushFront (takeOut lists q c) m c) l) ≡ times d (listOf lists l)
   moved-times = times-others lists q m c q-within m-within moved-apart

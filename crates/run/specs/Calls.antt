@@ -1,8 +1,8 @@
 -- A list of calls on one session, the refusals in the run's own state, and the reference run of the list.
-use Prim.Native.Nat.{ℕ, zero, suc, _+_, _*_}
-use mathlib.Core.Bool.{Bool, true, false, cond, _&&_, _||_}
+use Prim.Native.Nat.{ℕ}
+use mathlib.Core.Bool.{cond, _&&_}
 use mathlib.Core.List.{List, [], _∷_}
-use lib.Dec.{leb, ltb, eqb}
+use lib.Dec.{leb, eqb}
 use lib.ListN.{length}
 use Rattle.book.specs.Formula.{Formula, literalWithin}
 use Rattle.run.specs.Trail.{isAssigned, decisions}

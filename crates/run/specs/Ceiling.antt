@@ -5,8 +5,8 @@ use mathlib.Core.List.{List, [], _∷_}
 use lib.Dec.{eqb}
 use lib.ListN.{getD}
 use Rattle.book.specs.Formula.{Formula}
-use Rattle.run.specs.Run.{Run, size, openRun}
-use Rattle.run.specs.Calls.{Call, decision, takeBack, backtrackRefusal, step, reference}
+use Rattle.run.specs.Run.{Run, openRun}
+use Rattle.run.specs.Calls.{Call, decision, takeBack, backtrackRefusal, step}
 
 abbrev pub checksOf : Run → ℕ → ℕ
 checksOf run c = getD (run .checks) c 0
