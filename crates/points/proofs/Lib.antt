@@ -1,0 +1,2 @@
+-- The laws of `points`.
+pub mod Worn

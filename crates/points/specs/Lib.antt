@@ -1,0 +1,2 @@
+-- The modules of `points`: the table of the marked points.
+pub mod Points

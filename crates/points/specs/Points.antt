@@ -1,0 +1,211 @@
+-- The marked points of document 01 on text and run, as one table of equations that the definitions compute.
+use Prim.Native.Nat.{ℕ, zero, suc, _+_, _-_}
+use Prim.Native.Char.{code}
+use Prim.Native.String.{String, [] as ends, _∷_ as _then_}
+use mathlib.Core.Path.{_≡_, refl}
+use mathlib.Core.Bool.{true, false}
+use mathlib.Core.List.{List, [], _∷_, _++_}
+use lib.ListN.{length, take}
+use Rattle.base.specs.Lists.{all, keep, flat, empty, member, same, begins}
+use Rattle.book.specs.Formula.{Formula, positive, negative, literalWithin}
+use Rattle.book.specs.Text.{blank, lineEnd, extend, split, kept, linesOf, filled, wordsOf, decimal, isDigit, unsigned, unsignedToken, negativeToken, tokenOf, headed, headerIn, headerOf}
+use Rattle.book.specs.Faults.{fault, opened, closed, written, notNumber, overVariables, wrongLength, repeated, surplus, unfinished, overLiterals, faultsAt, faultsFrom, outside, bodyOf, faultsUnder, faultsOf}
+use Rattle.book.specs.Reading.{before, earlier, least, onto, clausesIn, formulaUnder, formulaIn, refused, accepted, judged, readText}
+use Rattle.book.specs.Printer.{digits, printNumber}
+use Rattle.run.specs.Trail.{Entry, opposite, place, literalAt, isTrue, decisions, lowered, cut}
+use Rattle.run.specs.Scan.{Cell, watched, next, oneMore, scanFrom, scan}
+use Rattle.run.specs.Run.{Run, size, cellOf, listOf, pushFront, without, takeOut, addChecks, otherWatch, moved, scannedAction, action, onTrail, withWatches, withConflict, counted, perform, visit, readList, propagateFrom, firstCell, watchAll, fresh, assignUnit, assignUnits, openRun, decide, backtrack}
+use Rattle.run.specs.Calls.{Call, decision, takeBack, decideRefusal, backtrackRefusal, refusal, perform as performCall, step, stepAll, reference}
+use Rattle.run.specs.Ceiling.{checksOf, countBefore, countAtLatest, ceiling}
+
+-- a quoted text as bytes
+unfoldable pub bytes : String → List ℕ
+bytes ends = []
+bytes (c then s) = code c ∷ bytes s
+
+-- n numbers from one on as text, each followed by a blank, and a 0; and as literals
+unfoldable pub counting : ℕ → ℕ → List ℕ
+counting from zero = bytes "0\n"
+counting from (suc n) = printNumber from ++ (32 ∷ counting (suc from) n)
+
+unfoldable pub positives : ℕ → ℕ → List ℕ
+positives from zero = []
+positives from (suc n) = positive from ∷ positives (suc from) n
+
+-- the text of one clause of n literals, and its formula
+abbrev pub longText : ℕ → List ℕ
+longText n = bytes "p cnf 500 1\n" ++ counting 1 n
+
+abbrev pub long : ℕ → Formula
+long n = record { variables = 500; clauses = positives 1 n ∷ [] }
+
+abbrev pub noClauses : ℕ → Formula
+noClauses variables = record { variables = variables; clauses = [] }
+
+-- trail entries, a trail from its oldest literal on, the sum of counts
+abbrev pub decided : ℕ → Entry
+decided l = record { literal = l; decided = true }
+
+abbrev pub implied : ℕ → Entry
+implied l = record { literal = l; decided = false }
+
+unfoldable pub reversed : List Entry → List Entry → List Entry
+reversed done [] = done
+reversed done (e ∷ trail) = reversed (e ∷ done) trail
+
+abbrev pub trailOf : Run → List Entry
+trailOf run = reversed [] (run .trail)
+
+unfoldable pub total : List ℕ → ℕ
+total [] = 0
+total (n ∷ ns) = n + total ns
+
+-- the clauses `1` and `-1`
+abbrev pub opposed : Formula
+opposed = record { variables = 1; clauses = (positive 1 ∷ []) ∷ (negative 1 ∷ []) ∷ [] }
+
+-- the listing: its book, its lines as calls, and the run after the first n of them
+abbrev pub listing : Formula
+listing =
+    record {
+      variables = 4;
+      clauses =
+          (positive 1 ∷ positive 2 ∷ positive 3 ∷ [])
+          ∷ (negative 3 ∷ positive 4 ∷ [])
+          ∷ (negative 4 ∷ negative 2 ∷ positive 1 ∷ [])
+          ∷ [];
+    }
+
+abbrev pub calls : List Call
+calls = decision (negative 1) ∷ decision (negative 2) ∷ takeBack 1 ∷ decision (negative 3) ∷ decision (positive 1) ∷ takeBack 3 ∷ []
+
+abbrev pub after : ℕ → Run
+after n = reference listing (take n calls)
+
+-- the listing's run with two decisions in force, as one that has made n backtracks
+abbrev pub worn : ℕ → Run
+worn n =
+    record {
+      trail = after 2 .trail;
+      cells = after 2 .cells;
+      lists = after 2 .lists;
+      conflict = after 2 .conflict;
+      checks = after 2 .checks;
+      backtracks = n;
+    }
+
+-- three clauses of which two come to watch one literal
+abbrev pub sharing : Formula
+sharing =
+    record {
+      variables = 5;
+      clauses = (positive 1 ∷ positive 2 ∷ positive 3 ∷ []) ∷ (positive 3 ∷ positive 4 ∷ []) ∷ (positive 3 ∷ positive 5 ∷ []) ∷ [];
+    }
+
+-- three clauses that watch one literal, of which the middle one can move
+abbrev pub crossed : Formula
+crossed =
+    record {
+      variables = 5;
+      clauses = (positive 1 ∷ positive 2 ∷ []) ∷ (positive 1 ∷ positive 3 ∷ positive 4 ∷ []) ∷ (positive 1 ∷ positive 5 ∷ []) ∷ [];
+    }
+
+pub record Table : Type 0 where
+  -- 255 literals read, 256 give 6.
+  pub literals-255 : readText (longText 255) ≡ accepted (long 255)
+  pub literals-256 : readText (longText 256) ≡ refused 6
+  -- V 500 read, 501 gives 3, as does 0.
+  pub variables-500 : readText (bytes "p cnf 500 0\n") ≡ accepted (noClauses 500)
+  pub variables-501 : readText (bytes "p cnf 501 0\n") ≡ refused 3
+  pub variables-0 : readText (bytes "p cnf 0 0\n") ≡ refused 3
+  -- `1 1 0` gives 7.
+  pub repeated-variable : readText (bytes "p cnf 1 1\n1 1 0\n") ≡ refused 7
+  -- Empty text gives 2.
+  pub empty-text : readText (bytes "") ≡ refused 2
+  -- C 0 opens with nothing forced.
+  pub no-clauses-trail : openRun (noClauses 4) .trail ≡ []
+  pub no-clauses-conflict : openRun (noClauses 4) .conflict ≡ 0
+  -- Rules `1` and `-1`: `open rule 2`; a choice then gives 14, a take-back 16.
+  pub opposed-text : readText (bytes "p cnf 1 2\n1 0\n-1 0\n") ≡ accepted opposed
+  pub opposed-conflict : openRun opposed .conflict ≡ 2
+  pub opposed-decision : refusal opposed (decision (positive 1)) (openRun opposed) ≡ 14
+  pub opposed-backtrack : refusal opposed (takeBack 1) (openRun opposed) ≡ 16
+  -- The listing: its book and the lines `-1`, `-2`, `b 1`, `-3`, `1`, `b 3`; the trail at the opening and after each accepted line.
+  pub listing-text : readText (bytes "p cnf 4 3\n1 2 3 0\n-3 4 0\n-4 -2 1 0\n") ≡ accepted listing
+  pub listing-open : trailOf (after 0) ≡ []
+  pub listing-1 : trailOf (after 1) ≡ decided (negative 1) ∷ []
+  pub listing-2 : trailOf (after 2) ≡ decided (negative 1) ∷ decided (negative 2) ∷ implied (positive 3) ∷ implied (positive 4) ∷ []
+  pub listing-3 : trailOf (after 3) ≡ decided (negative 1) ∷ []
+  pub listing-4 : trailOf (after 4) ≡ decided (negative 1) ∷ decided (negative 3) ∷ implied (positive 2) ∷ implied (negative 4) ∷ []
+  -- `refused 15`, `refused 16`; `end choices 2 backs 1 checks 4`.
+  pub listing-5 : refusal listing (decision (positive 1)) (after 4) ≡ 15
+  pub listing-6 : refusal listing (takeBack 3) (after 5) ≡ 16
+  pub end-conflict : after 6 .conflict ≡ 0
+  pub end-decisions : length (decisions (after 6 .trail)) ≡ 2
+  pub end-backtracks : after 6 .backtracks ≡ 1
+  pub end-checks : total (after 6 .checks) ≡ 4
+  -- Rule 1 above has 2 checks before `b 1` and 1 after; its ceiling is 3 each time.
+  pub clause-1-before : checksOf (after 2) 0 - countBefore listing 0 (take 2 calls) ≡ 2
+  pub clause-1-after : checksOf (after 6) 0 - countBefore listing 0 calls ≡ 1
+  pub clause-1-ceiling : ceiling (size listing 0) ≡ 3
+  -- Rule 3 has 1, rule 2 none.
+  pub clause-3 : checksOf (after 6) 2 ≡ 1
+  pub clause-2 : checksOf (after 6) 1 ≡ 0
+  -- In a passing session with two choices in force that records 999,999 take-backs, one more, of 1, is taken, the next of 1 gives 17.
+  pub worn-decisions : length (decisions (worn 999999 .trail)) ≡ 2
+  pub worn-taken : refusal listing (takeBack 1) (worn 999999) ≡ 0
+  pub worn-refused : refusal listing (takeBack 1) (step listing (worn 999999) (takeBack 1)) ≡ 17
+  -- Not marked, and pinned by no theorem: the order of a watch list. A rule goes to the front of its watches' lists at the opening; a
+  -- rule whose watch moves goes to the front of the new literal's list, and the watch keeps its place in the pair.
+  -- A list is read front to back, and the rules that stay keep their order.
+  pub order-open : listOf (openRun sharing .lists) (positive 3) ≡ 2 ∷ 1 ∷ []
+  pub order-moved : listOf (reference sharing (decision (negative 1) ∷ []) .lists) (positive 3) ≡ 0 ∷ 2 ∷ 1 ∷ []
+  pub order-left : listOf (reference sharing (decision (negative 1) ∷ []) .lists) (positive 1) ≡ []
+  pub pair-moved : cellOf (reference sharing (decision (negative 1) ∷ [])) 0 ≡ record { first = 2; second = 1; pointer = 2 }
+  pub order-read : trailOf (reference crossed (decision (negative 1) ∷ [])) ≡ decided (negative 1) ∷ implied (positive 5) ∷ implied (positive 2) ∷ []
+  pub order-kept : listOf (reference crossed (decision (negative 1) ∷ []) .lists) (positive 1) ≡ 2 ∷ 0 ∷ []
+
+pub table : Table
+unfolding all keep flat empty member same begins literalWithin blank lineEnd extend split kept linesOf filled wordsOf decimal isDigit unsigned unsignedToken negativeToken tokenOf headed headerIn headerOf fault opened closed written notNumber overVariables wrongLength repeated surplus unfinished overLiterals faultsAt faultsFrom outside bodyOf faultsUnder faultsOf before earlier least onto clausesIn formulaUnder formulaIn judged readText digits opposite place literalAt isTrue decisions lowered cut watched next oneMore scanFrom scan pushFront without takeOut addChecks otherWatch moved scannedAction action onTrail withWatches withConflict counted perform visit readList propagateFrom firstCell watchAll fresh assignUnit assignUnits openRun decide backtrack decideRefusal backtrackRefusal refusal performCall step stepAll reference countAtLatest bytes counting positives reversed total
+table =
+    record {
+      literals-255 = refl;
+      literals-256 = refl;
+      variables-500 = refl;
+      variables-501 = refl;
+      variables-0 = refl;
+      repeated-variable = refl;
+      empty-text = refl;
+      no-clauses-trail = refl;
+      no-clauses-conflict = refl;
+      opposed-text = refl;
+      opposed-conflict = refl;
+      opposed-decision = refl;
+      opposed-backtrack = refl;
+      listing-text = refl;
+      listing-open = refl;
+      listing-1 = refl;
+      listing-2 = refl;
+      listing-3 = refl;
+      listing-4 = refl;
+      listing-5 = refl;
+      listing-6 = refl;
+      end-conflict = refl;
+      end-decisions = refl;
+      end-backtracks = refl;
+      end-checks = refl;
+      clause-1-before = refl;
+      clause-1-after = refl;
+      clause-1-ceiling = refl;
+      clause-3 = refl;
+      clause-2 = refl;
+      worn-decisions = refl;
+      worn-taken = refl;
+      worn-refused = refl;
+      order-open = refl;
+      order-moved = refl;
+      order-left = refl;
+      pair-moved = refl;
+      order-read = refl;
+      order-kept = refl;
+    }
