@@ -3,6 +3,7 @@ pub mod Circle
 pub mod ScanLaws
 pub mod Trails
 pub mod Clauses
+pub mod Order
 pub mod WatchLists
 pub mod Inductions
 pub mod Growth

@@ -8,8 +8,7 @@ use mathlib.Core.Logic.{_⊎_, inl, inr, ⊎-elim}
 use mathlib.Core.Path.{_≡_, refl, sym, ap, ap₂, _∙_}
 use borrow.Author.Tests.{eqb-true, eqb-false, eq-eqb, ne-eqb, le-leb, lt-leb, leb-true}
 use lib.Dec.{leb, eqb}
-use lib.ListN.{length, getD, set, replicate, length-set, length-map, length-replicate, List·getD-map}
-use lib.Seq.{getD-set-same, getD-set-other}
+use lib.ListN.{length, getD, replicate, length-map, length-replicate, List·getD-map}
 use Rattle.base.specs.Lists.{member, distinct, times}
 use Rattle.base.proofs.Lists.{getD-alike}
 use Rattle.base.proofs.Bools.{alike, never}
@@ -20,6 +19,7 @@ use Rattle.run.specs.Scan.{Cell}
 use Rattle.run.specs.Run.{Run, clauseOf, size, noCell, listOf, pushFront, onTrail, withConflict, inConflict, firstCell, watchAll, fresh, assignUnit, assignUnits}
 use Rattle.run.specs.Valid.{one, Reason}
 use Rattle.run.proofs.Trails.{true-place, untrue-place, place-new, level-within, undecided-lowered, decided-count}
+use Rattle.run.proofs.Order.{pushed-first, pushed-elsewhere, pushed-length}
 use Rattle.run.proofs.Clauses.{clause-exists, literal-within, literal-listed}
 use Rattle.run.proofs.WatchLists.{secondLiteral, firstLiteral, Watched, cellAt, among}
 use Rattle.run.proofs.Settling.{old-stays, Structure, structure-valid, Going, Ended, quiet-out}
@@ -28,18 +28,14 @@ use Rattle.run.proofs.Visits.{trailed-push}
 -- how often clause d stands in the list of l after clause c was put at the front of the list of a
 push-times : (lists : List (List ℕ)) (a c l d : ℕ) → a < length lists
     → times d (listOf (pushFront lists a c) l) ≡ times d (listOf lists l) + cond (eqb d c) (one (eqb l a)) 0
-unfolding pushFront
 push-times lists a c l d h = go (eqb l a) refl (eqb d c) refl
   where
-    here : listOf (set lists a (c ∷ listOf lists a)) a ≡ c ∷ listOf lists a
-    here = getD-set-same lists a (c ∷ listOf lists a) [] h
-
     go : (x : Bool) → eqb l a ≡ x → (y : Bool) → eqb d c ≡ y
-        → times d (listOf (set lists a (c ∷ listOf lists a)) l) ≡ times d (listOf lists l) + cond y (one x) 0
-    go true e true f = rw (eqb-true l a e, here, eqb-true d c f, times-same c (listOf lists a)) (omega arith)
-    go true e false f = rw (eqb-true l a e, here, times-other d c (listOf lists a) (eqb-false d c f)) (omega arith)
-    go false e true f = rw (getD-set-other lists a l (c ∷ listOf lists a) [] (eqb-false l a e)) (omega arith)
-    go false e false f = rw (getD-set-other lists a l (c ∷ listOf lists a) [] (eqb-false l a e)) (omega arith)
+        → times d (listOf (pushFront lists a c) l) ≡ times d (listOf lists l) + cond y (one x) 0
+    go true e true f = rw (eqb-true l a e, pushed-first lists a c h, eqb-true d c f, times-same c (listOf lists a)) (omega arith)
+    go true e false f = rw (eqb-true l a e, pushed-first lists a c h, times-other d c (listOf lists a) (eqb-false d c f)) (omega arith)
+    go false e true f = rw (pushed-elsewhere lists a c l (eqb-false l a e)) (omega arith)
+    go false e false f = rw (pushed-elsewhere lists a c l (eqb-false l a e)) (omega arith)
 
 -- how often a clause stands by its first watches
 abbrev first-stands : ℕ → List ℕ → ℕ
@@ -72,20 +68,17 @@ watch-one : List (List ℕ) → List ℕ → ℕ → List (List ℕ)
 watch-one lists clause c = cond (leb 2 (length clause)) (pushFront (pushFront lists (getD clause 0 0) c) (getD clause 1 0) c) lists
 
 watch-one-length : (lists : List (List ℕ)) (clause : List ℕ) (c : ℕ) → length (watch-one lists clause c) ≡ length lists
-unfolding watch-one pushFront
+unfolding watch-one
 watch-one-length lists clause c = go (leb 2 (length clause))
   where
     go : (b : Bool) → length (cond b (pushFront (pushFront lists (getD clause 0 0) c) (getD clause 1 0) c) lists) ≡ length lists
-    go true =
-        length-set (pushFront lists (getD clause 0 0) c) (getD clause 1 0)
-        (c ∷ listOf (pushFront lists (getD clause 0 0) c) (getD clause 1 0)) ∙ length-set lists (getD clause 0 0)
-        (c ∷ listOf lists (getD clause 0 0))
+    go true = pushed-length (pushFront lists (getD clause 0 0) c) (getD clause 1 0) c ∙ pushed-length lists (getD clause 0 0) c
     go false = refl
 
 watch-one-times : (lists : List (List ℕ)) (clause : List ℕ) (c l d : ℕ)
     → (2 ≤ length clause → (getD clause 0 0 < length lists) × (getD clause 1 0 < length lists))
     → times d (listOf (watch-one lists clause c) l) ≡ times d (listOf lists l) + cond (eqb d c) (first-stands l clause) 0
-unfolding watch-one pushFront
+unfolding watch-one
 watch-one-times lists clause c l d reach = go (leb 2 (length clause)) refl (eqb d c) refl
   where
     a : ℕ
@@ -100,7 +93,7 @@ watch-one-times lists clause c l d reach = go (leb 2 (length clause)) refl (eqb 
     go false e false f = omega arith
     go true e y f =
         let r = reach (leb-true 2 (length clause) e) in
-        let long : length (pushFront lists a c) ≡ length lists = length-set lists a (c ∷ listOf lists a) in
+        let long : length (pushFront lists a c) ≡ length lists = pushed-length lists a c in
         let first : times d (listOf (pushFront lists a c) l) ≡ times d (listOf lists l) + cond y (one (eqb l a)) 0
         = rw f at (push-times lists a c l d (r .0)) in
         let second : times d (listOf (pushFront (pushFront lists a c) b c) l) ≡ times d (listOf (pushFront lists a c) l) + cond y

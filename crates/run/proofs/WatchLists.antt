@@ -16,6 +16,7 @@ use Rattle.book.specs.Formula.{Formula, variableOf, sound}
 use Rattle.run.specs.Scan.{Cell, watched}
 use Rattle.run.specs.Run.{clauseOf, size, noCell, listOf, pushFront, without, takeOut, otherWatch, moved}
 use Rattle.run.specs.Valid.{Watching, one}
+use Rattle.run.proofs.Order.{pushed-first, pushed-elsewhere, pushed-length, taken-out, taken-elsewhere, taken-length}
 use Rattle.run.proofs.Clauses.{clause-exists, literal-listed, literals-apart}
 
 abbrev pub cellAt : List Cell → ℕ → Cell
@@ -157,23 +158,15 @@ listed-sides {formula} {cells} {lists} w q c h =
 -- the lists after a move from the list of q to that of m
 module _ (lists : List (List ℕ)) (q m c : ℕ) (q-within : q < length lists) (m-within : m < length lists) (apart : m ≡ q → ⊥) where
   list-left : listOf (pushFront (takeOut lists q c) m c) q ≡ without c (listOf lists q)
-  unfolding pushFront takeOut
-  list-left =
-      getD-set-other (takeOut lists q c) m q (c ∷ listOf (takeOut lists q c) m) [] (λ e. apart (sym e))
-      ∙ getD-set-same lists q (without c (listOf lists q)) [] q-within
+  list-left = pushed-elsewhere (takeOut lists q c) m c q (λ e. apart (sym e)) ∙ taken-out lists q c q-within
 
   list-joined : listOf (pushFront (takeOut lists q c) m c) m ≡ c ∷ listOf lists m
-  unfolding pushFront takeOut
   list-joined =
-      getD-set-same (takeOut lists q c) m (c ∷ listOf (takeOut lists q c) m) []
-      (rw (length-set lists q (without c (listOf lists q))) m-within)
-      ∙ ap (λ (xs : List ℕ). c ∷ xs) (getD-set-other lists q m (without c (listOf lists q)) [] apart)
+      pushed-first (takeOut lists q c) m c (rw (taken-length lists q c) m-within)
+      ∙ ap (λ (xs : List ℕ). c ∷ xs) (taken-elsewhere lists q c m apart)
 
   list-same : (l : ℕ) → (l ≡ q → ⊥) → (l ≡ m → ⊥) → listOf (pushFront (takeOut lists q c) m c) l ≡ listOf lists l
-  unfolding pushFront takeOut
-  list-same l n k =
-      getD-set-other (takeOut lists q c) m l (c ∷ listOf (takeOut lists q c) m) [] k
-      ∙ getD-set-other lists q l (without c (listOf lists q)) [] n
+  list-same l n k = pushed-elsewhere (takeOut lists q c) m c l k ∙ taken-elsewhere lists q c l n
 
   -- only the moved clause is counted anew
   times-others : (l d : ℕ) → (d ≡ c → ⊥) → times d (listOf (pushFront (takeOut lists q c) m c) l) ≡ times d (listOf lists l)
@@ -336,13 +329,10 @@ module _ (formula : Formula) (s : sound formula ≡ true) (cells : List Cell) (l
           rw (list-same lists q m c q-within m-within moved-apart l e k, stood l, one-other e, one-other k)
 
   pub moved-watched : Watched formula (set cells c after) (pushFront (takeOut lists q c) m c)
-  unfolding pushFront takeOut
   moved-watched =
       record {
         cells-length = length-set cells c after ∙ w .cells-length;
-        lists-length =
-            length-set (takeOut lists q c) m (c ∷ listOf (takeOut lists q c) m) ∙ length-set lists q (without c (listOf lists q))
-            ∙ w .lists-length;
+        lists-length = pushed-length (takeOut lists q c) m c ∙ taken-length lists q c ∙ w .lists-length;
         watching = λ d h. ⊎-elim (watching-now d h) (watching-others d h) (alike d c);
         unwatched = λ d h. cell-others d (λ e. bigger (rw e two) h) ∙ w .unwatched d h;
         listed = λ l d. ⊎-elim (listed-now l d) (listed-others l d) (alike d c);
