@@ -56,11 +56,6 @@ module _ {A : Type 0} where
   all-at p (x ∷ xs) d e zero h = and-parts (p x) (all p xs) e .0
   all-at p (x ∷ xs) d e (suc i) h = all-at p xs d (and-parts (p x) (all p xs) e .1) i (omega arith)
 
-  pub all-more : (p : A → Bool) (xs : List A) (x : A) → all p (xs ++ (x ∷ [])) ≡ (all p xs && p x)
-  unfolding all
-  all-more p [] x = and-true (p x)
-  all-more p (y ∷ xs) x = rw (all-more p xs x, and-assoc)
-
   pub length-more : (xs : List A) (x : A) → length (xs ++ (x ∷ [])) ≡ suc (length xs)
   length-more xs x = length-append xs (x ∷ []) ∙ omega arith
 
@@ -68,6 +63,10 @@ module _ {A : Type 0} where
   unfolding all
   all-append p [] ys = refl
   all-append p (x ∷ xs) ys = rw (all-append p xs ys) (sym (and-assoc (p x) (all p xs) (all p ys)))
+
+  pub all-more : (p : A → Bool) (xs : List A) (x : A) → all p (xs ++ (x ∷ [])) ≡ (all p xs && p x)
+  unfolding all
+  all-more p xs x = rw (all-append, and-true)
 
   pub all-both : (p : A → Bool) (xs ys : List A) → all p xs ≡ true → all p ys ≡ true → all p (xs ++ ys) ≡ true
   all-both p xs ys h i = rw (all-append, h, i)

@@ -1,4 +1,4 @@
--- A formula that reading a text accepts is within document 01's limits.
+-- A formula that reading a text accepts is within document 01's limits, and its book numbers are well formed.
 use Prim.Native.Nat.{ℕ, _+_, _*_, _≤_}
 use native.Mathlib.Omega.{arith}
 use mathlib.Core.Path.{_≡_, refl, sym, _∙_}
@@ -12,11 +12,13 @@ use Rattle.base.proofs.Bools.{neither-left, neither-right, and-parts}
 use Rattle.base.proofs.Lists.{all-both, flat-more}
 use Rattle.base.proofs.Members.{distinct-more}
 use Rattle.book.specs.Formula.{Formula, variableOf, positive, negative, maxVariables, maxClauses, maxLiterals, maxClause, literalWithin, soundClause, sound}
+use Rattle.book.specs.Numbers.{numbersOf, wellFormed}
 use Rattle.book.specs.Text.{Piece, Token, literal, close, invalid, decimal, unsigned, unsignedToken, negativeToken, tokenOf, linesOf, Header, header, malformed, headerOf}
 use Rattle.book.specs.Faults.{outside, bodyOf}
 use Rattle.book.specs.Reading.{maxText, Judged, refused, accepted, readText}
 use Rattle.book.specs.Inner.Walk.{walk, tokensOf, walkUnder, walkLines}
 use Rattle.book.proofs.LeastFault.{read-is-walk}
+use Rattle.book.proofs.NumberLaws.{numbers-well-formed}
 use Rattle.book.proofs.SoundLaws.{literal-whole, clause-whole, clauses-decide-sound}
 
 -- a token of a word: its literal has a variable
@@ -186,3 +188,8 @@ accepted-short text formula h = passed (ltb maxText (length text)) 1 _ formula h
 
 pub accepted-sound : (text : List ℕ) (formula : Formula) → readText text ≡ accepted formula → sound formula ≡ true
 accepted-sound text formula h = lines-sound (linesOf text) formula (sym (read-is-walk text (accepted-short text formula h)) ∙ h)
+
+-- the book numbers of a text that is accepted are well formed, whatever stands behind them
+pub accepted-well-formed : (text : List ℕ) (formula : Formula) (rest : List ℕ) → readText text ≡ accepted formula
+    → wellFormed (numbersOf formula ++ rest) ≡ true
+accepted-well-formed text formula rest h = numbers-well-formed formula rest (accepted-sound text formula h)
