@@ -110,6 +110,20 @@ crossed =
       clauses = (positive 1 ∷ positive 2 ∷ []) ∷ (positive 1 ∷ positive 3 ∷ positive 4 ∷ []) ∷ (positive 1 ∷ positive 5 ∷ []) ∷ [];
     }
 
+-- one clause of four literals; a clause read behind one that implies a literal; a conflict with a clause left unread
+abbrev pub circled : Formula
+circled = record { variables = 4; clauses = (positive 1 ∷ positive 2 ∷ positive 3 ∷ positive 4 ∷ []) ∷ [] }
+
+abbrev pub queued : Formula
+queued = record { variables = 4; clauses = (positive 1 ∷ positive 3 ∷ positive 4 ∷ []) ∷ (positive 1 ∷ negative 4 ∷ []) ∷ [] }
+
+abbrev pub torn : Formula
+torn =
+    record {
+      variables = 3;
+      clauses = (positive 1 ∷ positive 3 ∷ []) ∷ (positive 1 ∷ positive 2 ∷ []) ∷ (positive 1 ∷ negative 2 ∷ []) ∷ [];
+    }
+
 pub record Table : Type 0 where
   -- 255 literals read, 256 give 6.
   pub literals-255 : readText (longText 255) ≡ accepted (long 255)
@@ -164,6 +178,14 @@ pub record Table : Type 0 where
   pub pair-moved : cellOf (reference sharing (decision (negative 1) ∷ [])) 0 ≡ record { first = 2; second = 1; pointer = 2 }
   pub order-read : trailOf (reference crossed (decision (negative 1) ∷ [])) ≡ decided (negative 1) ∷ implied (positive 5) ∷ implied (positive 2) ∷ []
   pub order-kept : listOf (reference crossed (decision (negative 1) ∷ []) .lists) (positive 1) ≡ 2 ∷ 0 ∷ []
+  -- Not marked: the faults that a desk would not notice. The scan goes on behind the pointer; the pointer stays over a take-back; a watch
+  -- does not move to a literal that is false and not yet handled. And a contradiction ends the settling.
+  pub scan-behind-pointer : checksOf (reference circled (decision (negative 1) ∷ decision (negative 3) ∷ [])) 0 ≡ 2
+  pub pointer-stays : cellOf (reference circled (decision (negative 1) ∷ takeBack 1 ∷ [])) 0 ≡ record { first = 2; second = 1; pointer = 2 }
+  pub unhandled-is-false : trailOf (reference queued (decision (negative 1) ∷ [])) ≡ decided (negative 1) ∷ implied (negative 4) ∷ implied (positive 3) ∷ []
+  pub unhandled-checks : checksOf (reference queued (decision (negative 1) ∷ [])) 0 ≡ 1
+  pub conflict-ends-trail : trailOf (reference torn (decision (negative 1) ∷ [])) ≡ decided (negative 1) ∷ implied (negative 2) ∷ []
+  pub conflict-ends-named : reference torn (decision (negative 1) ∷ []) .conflict ≡ 2
 
 pub table : Table
 unfolding all keep flat empty member same begins literalWithin blank lineEnd extend split kept linesOf filled wordsOf decimal isDigit unsigned unsignedToken negativeToken tokenOf headed headerIn headerOf fault opened closed written notNumber overVariables wrongLength repeated surplus unfinished overLiterals faultsAt faultsFrom outside bodyOf faultsUnder faultsOf before earlier least onto clausesIn formulaUnder formulaIn judged readText digits opposite place literalAt isTrue decisions lowered cut watched next oneMore scanFrom scan pushFront without takeOut addChecks otherWatch moved scannedAction action onTrail withWatches withConflict counted perform visit readList propagateFrom firstCell watchAll fresh assignUnit assignUnits openRun decide backtrack decideRefusal backtrackRefusal refusal performCall step stepAll reference countAtLatest bytes counting positives reversed total
@@ -208,4 +230,10 @@ table =
       pair-moved = refl;
       order-read = refl;
       order-kept = refl;
+      scan-behind-pointer = refl;
+      pointer-stays = refl;
+      unhandled-is-false = refl;
+      unhandled-checks = refl;
+      conflict-ends-trail = refl;
+      conflict-ends-named = refl;
     }
