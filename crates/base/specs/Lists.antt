@@ -1,5 +1,5 @@
 -- Functions on lists that the definitions of the other crates use.
-use Prim.Native.Nat.{ℕ, suc}
+use Prim.Native.Nat.{ℕ, zero, suc, _+_}
 use mathlib.Core.Bool.{Bool, true, false, cond, not, _&&_, _||_}
 use mathlib.Core.List.{List, [], _∷_, _++_}
 use lib.Dec.{eqb}
@@ -9,6 +9,11 @@ module _ {A : Type 0} where
   unfoldable pub all : (A → Bool) → List A → Bool
   all p [] = true
   all p (x ∷ xs) = p x && all p xs
+
+  -- the test holds of some element
+  unfoldable pub any : (A → Bool) → List A → Bool
+  any p [] = false
+  any p (x ∷ xs) = p x || any p xs
 
   -- the elements of which the test holds, in their order
   unfoldable pub keep : (A → Bool) → List A → List A
@@ -55,3 +60,17 @@ times x (y ∷ ys) = cond (eqb x y) (suc (times x ys)) (times x ys)
 unfoldable pub until : (ℕ → Bool) → List ℕ → List ℕ
 until stop [] = []
 until stop (x ∷ xs) = cond (stop x) [] (x ∷ until stop xs)
+
+-- the values of a function at 0, 1, …, n − 1
+unfoldable pub table : {A : Type 0} → ℕ → (ℕ → A) → List A
+table zero f = []
+table (suc n) f = f zero ∷ table n (λ (i : ℕ). f (suc i))
+
+-- the test holds of every number below n
+unfoldable pub upTo : ℕ → (ℕ → Bool) → Bool
+upTo zero test = true
+upTo (suc n) test = upTo n test && test n
+
+unfoldable pub sum : List ℕ → ℕ
+sum [] = 0
+sum (x ∷ xs) = x + sum xs

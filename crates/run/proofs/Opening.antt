@@ -178,7 +178,7 @@ pub record Opened (formula : Formula) (c : ℕ) (run : Run) : Type 0 where
   pub undecided : length (decisions (run .trail)) ≡ 0
   pub units-on : (d : ℕ) → d < c → size formula d ≡ 1 → 0 < place (run .trail) (getD (clauseOf formula d) 0 0)
 
-fresh-opened : (formula : Formula) → sound formula ≡ true → Opened formula 0 (fresh formula)
+pub fresh-opened : (formula : Formula) → sound formula ≡ true → Opened formula 0 (fresh formula)
 unfolding fresh isTrue place decisions distinct
 fresh-opened formula s =
     record {
@@ -278,7 +278,7 @@ module _ (formula : Formula) (s : sound formula ≡ true) (c : ℕ) (run : Run) 
             others = λ m k n. absurd (n (only clause one m k));
           }
 
-  unit-outcome : Opened formula (suc c) (assignUnit c clause run) ⊎ Ended formula (assignUnit c clause run)
+  pub unit-outcome : Opened formula (suc c) (assignUnit c clause run) ⊎ Ended formula (assignUnit c clause run)
   unfolding assignUnit
   unit-outcome = go (eqb (length clause) 1) refl (isTrue (run .trail) l) refl (isFalse (run .trail) l) refl
     where

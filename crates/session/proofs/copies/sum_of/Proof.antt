@@ -1,0 +1,62 @@
+-- `sum_of` meets its contract. Assumes nothing.
+use mathlib.Core.Path.{_≡_, refl, ap, sym, _∙_}
+use native.Mathlib.Omega.{arith}
+use borrow.Author.Needs.{needs}
+use borrow.Author.Tests.{not-true, not-false}
+use Prim.Native.Nat.{_-_}
+use lib.ListN.{length}
+use Rattle.session.proofs.CopyLaws.{Summed, summed-none, summed-more, summed-all}
+use Rattle.session.proofs.copies.sum_of.Statement.{statement}
+use Rattle.session.proofs.copies.sum_of.Tie as tie
+use Rattle.session.proofs.copies.sum_of.Reads as reads
+use Rattle.session.proofs.copies.sum_of.Lts as lts
+use Rattle.session.proofs.copies.wide.Reads as wide-reads
+
+abbrev Inv-loop : tie.InvT-loop
+Inv-loop numbers sum₀ i₀ sum i = Summed numbers sum i
+
+abbrev μ-loop : tie.MeasureT-loop
+μ-loop numbers sum₀ i₀ sum i = length numbers - i
+
+loop-holds : tie.Need-loop-holds Inv-loop μ-loop
+loop-holds c = summed-none (c .before .args .numbers .now)
+
+mul-wide : tie.Need-mul-wide Inv-loop μ-loop
+mul-wide c = omega (arith, c .before .before .before .pre)
+
+shared-slice-read-wide : tie.Need-shared-slice-read-wide Inv-loop μ-loop
+shared-slice-read-wide c = search needs
+
+wide-requires : tie.Need-wide-requires Inv-loop μ-loop
+wide-requires c κs = tt
+
+add-sum : tie.Need-add-sum Inv-loop μ-loop
+add-sum c = omega (arith, c .wide .ensures, c .before .shared-slice-known2 .given (c .before .before .before .loop .i), c .before .before .before .loop .inv .small, c .before .before .before .before .before .pre)
+
+add-i : tie.Need-add-i Inv-loop μ-loop
+add-i c = search needs
+
+loop-less : tie.Need-loop-less Inv-loop μ-loop
+loop-less c = search needs
+
+loop-again : tie.Need-loop-again Inv-loop μ-loop
+loop-again c = summed-more (c .before .before .before .before .before .args .numbers .now) _ (c .before .before .before .loop .i) _ (c .before .before .before .loop .inv) (search needs) (c .wide .ensures) (omega (arith, c .wide .ensures, c .before .shared-slice-known2 .given (c .before .before .before .loop .i)))
+
+returns : tie.Need-returns Inv-loop μ-loop
+returns c = summed-all (c .before .before .before .args .numbers .now) _ _ (c .before .loop .inv) (search needs)
+
+pub sum-of-spec : {M : Type 1} → statement M
+sum-of-spec =
+    tie.close
+    (tie.spec
+    Inv-loop
+    μ-loop
+    loop-holds
+    mul-wide
+    shared-slice-read-wide
+    wide-requires
+    add-sum
+    add-i
+    loop-less
+    loop-again
+    returns)

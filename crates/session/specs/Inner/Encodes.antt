@@ -1,0 +1,55 @@
+-- The relation between session numbers and the run that they hold, which the private contracts speak of.
+use Prim.Native.Nat.{ℕ, suc, _+_, _*_, _-_, _/_, _%_, _≤_, _<_}
+use mathlib.Core.Path.{_≡_}
+use mathlib.Core.Bool.{Bool, true, cond}
+use mathlib.Core.List.{List, [], _∷_, _++_, map}
+use lib.Dec.{eqb}
+use lib.ListN.{length, getD, set}
+use Rattle.book.specs.Formula.{Formula, variableOf}
+use Rattle.book.specs.Numbers.{variablesOf, clausesOf, formulaOf, wellFormed}
+use Rattle.run.specs.Trail.{Entry, literalAt, isTrue, isFalse, decisions}
+use Rattle.run.specs.Scan.{Cell}
+use Rattle.run.specs.Run.{Run, size, listOf}
+use Rattle.run.proofs.Settling.{Going}
+use Rattle.session.specs.Layout.{trailAt, levelsAt, valuesAt, headsAt, watchesAt, pointersAt, linksAt, checksAt, required, requiredLength, valueNumber, levelNumber, cellAt, nodeOf}
+
+-- the place of a list's head, and of a node's link
+abbrev pub headSlot : ℕ → ℕ → ℕ
+headSlot v l = headsAt v + (l - 2)
+
+abbrev pub linkSlot : ℕ → ℕ → ℕ → ℕ
+linkSlot v c node = linksAt v c + (node - 1)
+
+-- the nodes from a slot on; 0 ends them
+abbrev pub Chain : ℕ → ℕ → List ℕ → ℕ → List ℕ → Type 0
+Chain v c numbers slot [] = getD numbers slot 0 ≡ 0
+Chain v c numbers slot (node ∷ nodes) = (getD numbers slot 0 ≡ node) × Chain v c numbers (linkSlot v c node) nodes
+
+abbrev pub nodesOf : Formula → List Cell → ℕ → List ℕ → List ℕ
+nodesOf formula cells l list = map (nodeOf formula cells l) list
+
+pub record TrailHeld (v : ℕ) (numbers : List ℕ) (trail : List Entry) : Type 0 where
+  pub count : getD numbers 0 0 ≡ length trail
+  pub decided : getD numbers 1 0 ≡ length (decisions trail)
+  pub literals : (i : ℕ) → i < v → getD numbers (trailAt + i) 0 ≡ literalAt trail (suc i)
+  pub levels : (i : ℕ) → i < v → getD numbers (levelsAt v + i) 0 ≡ levelNumber trail (suc i)
+  pub values : (i : ℕ) → i < v → getD numbers (valuesAt v + i) 0 ≡ valueNumber trail (suc i)
+
+pub record WatchesHeld (formula : Formula) (numbers : List ℕ) (cells : List Cell) (lists : List (List ℕ)) : Type 0 where
+  pub firsts : (c : ℕ) → c < length (formula .clauses) → getD numbers (watchesAt (formula .variables) + 2 * c) 0 ≡ cellAt cells c .first
+  pub seconds : (c : ℕ) → c < length (formula .clauses) → getD numbers (watchesAt (formula .variables) + 2 * c + 1) 0 ≡ cellAt cells c .second
+  pub pointers : (c : ℕ) → c < length (formula .clauses)
+      → getD numbers (pointersAt (formula .variables) (length (formula .clauses)) + c) 0 ≡ cellAt cells c .pointer
+  pub chains : (l : ℕ) → 2 ≤ l → l ≤ 2 * formula .variables + 1
+      → Chain (formula .variables) (length (formula .clauses)) numbers (headSlot (formula .variables) l) (nodesOf formula cells l (listOf lists l))
+  pub idle : (node : ℕ) → 1 ≤ node → node ≤ 2 * length (formula .clauses) → size formula ((node - 1) / 2) < 2
+      → getD numbers (linkSlot (formula .variables) (length (formula .clauses)) node) 0 ≡ 0
+
+pub record Encodes (formula : Formula) (numbers : List ℕ) (run : Run) : Type 0 where
+  pub long : requiredLength formula ≤ length numbers
+  pub trail : TrailHeld (formula .variables) numbers (run .trail)
+  pub conflict : getD numbers 2 0 ≡ run .conflict
+  pub backtracks : getD numbers 3 0 ≡ run .backtracks
+  pub watches : WatchesHeld formula numbers (run .cells) (run .lists)
+  pub checks : (c : ℕ) → c < length (formula .clauses)
+      → getD numbers (checksAt (formula .variables) (length (formula .clauses)) + c) 0 ≡ getD (run .checks) c 0

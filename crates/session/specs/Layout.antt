@@ -1,0 +1,150 @@
+-- The session numbers: where each part lies, the numbers of a run, and the run that numbers hold. docs/LAYOUT.md shows the same table.
+use Prim.Native.Nat.{ℕ, zero, suc, _+_, _*_, _-_, _/_, _%_}
+use mathlib.Core.Bool.{Bool, cond, not}
+use mathlib.Core.List.{List, [], _∷_, _++_}
+use lib.Dec.{leb, eqb}
+use lib.ListN.{length, getD, take, drop}
+use Rattle.base.specs.Lists.{table}
+use Rattle.book.specs.Formula.{Formula, positive, negative}
+use Rattle.run.specs.Trail.{Entry, place, literalAt, isTrue, decisions, level}
+use Rattle.run.specs.Scan.{Cell}
+use Rattle.run.specs.Run.{Run, clauseOf, size, noCell, listOf}
+
+-- Behind the four numbers of the header, with v variables and c clauses: trail, levels, values, heads, watches, pointers, links, checks.
+abbrev pub trailAt : ℕ
+trailAt = 4
+
+abbrev pub levelsAt : ℕ → ℕ
+levelsAt v = 4 + v
+
+abbrev pub valuesAt : ℕ → ℕ
+valuesAt v = 4 + 2 * v
+
+abbrev pub headsAt : ℕ → ℕ
+headsAt v = 4 + 3 * v
+
+abbrev pub watchesAt : ℕ → ℕ
+watchesAt v = 4 + 5 * v
+
+abbrev pub pointersAt : ℕ → ℕ → ℕ
+pointersAt v c = 4 + 5 * v + 2 * c
+
+abbrev pub linksAt : ℕ → ℕ → ℕ
+linksAt v c = 4 + 5 * v + 3 * c
+
+abbrev pub checksAt : ℕ → ℕ → ℕ
+checksAt v c = 4 + 5 * v + 5 * c
+
+-- the required length (the paper's need)
+abbrev pub required : ℕ → ℕ → ℕ
+required v c = 4 + 5 * v + 6 * c
+
+abbrev pub requiredLength : Formula → ℕ
+requiredLength formula = required (formula .variables) (length (formula .clauses))
+
+-- The value of a variable: 0 where it is open, else twice the place of its literal on the trail, plus 1 if that is negative.
+unfoldable pub valueNumber : List Entry → ℕ → ℕ
+valueNumber trail v =
+    cond (isTrue trail (positive v))
+    (2 * place trail (positive v))
+    (cond (isTrue trail (negative v)) (2 * place trail (negative v) + 1) 0)
+
+-- the level of the trail literal at a place; 0 behind the end
+unfoldable pub levelNumber : List Entry → ℕ → ℕ
+levelNumber trail h = level trail (literalAt trail h)
+
+-- A clause of n ≥ 2 has two nodes, one for each watch: node 2 × c + 1 for the first, 2 × c + 2 for the second. A literal's watch list is a
+-- chain of nodes from its head on, and 0 ends it.
+abbrev pub cellAt : List Cell → ℕ → Cell
+cellAt cells c = getD cells c noCell
+
+unfoldable pub watchLiteral : Formula → List Cell → ℕ → ℕ
+watchLiteral formula cells node =
+    cond (eqb (node % 2) 1)
+    (getD (clauseOf formula ((node - 1) / 2)) (cellAt cells ((node - 1) / 2) .first) 0)
+    (getD (clauseOf formula ((node - 1) / 2)) (cellAt cells ((node - 1) / 2) .second) 0)
+
+unfoldable pub nodeOf : Formula → List Cell → ℕ → ℕ → ℕ
+nodeOf formula cells l c = cond (eqb (getD (clauseOf formula c) (cellAt cells c .first) 0) l) (2 * c + 1) (2 * c + 2)
+
+unfoldable pub firstNode : Formula → List Cell → ℕ → List ℕ → ℕ
+firstNode formula cells l [] = 0
+firstNode formula cells l (c ∷ list) = nodeOf formula cells l c
+
+-- what stands behind c in a list
+unfoldable pub behind : ℕ → List ℕ → List ℕ
+behind c [] = []
+behind c (d ∷ list) = cond (eqb d c) list (behind c list)
+
+unfoldable pub headNumber : Formula → List Cell → List (List ℕ) → ℕ → ℕ
+headNumber formula cells lists l = firstNode formula cells l (listOf lists l)
+
+unfoldable pub linkNumber : Formula → List Cell → List (List ℕ) → ℕ → ℕ
+linkNumber formula cells lists node =
+    cond (leb 2 (size formula ((node - 1) / 2)))
+    (firstNode formula cells (watchLiteral formula cells node)
+    (behind ((node - 1) / 2) (listOf lists (watchLiteral formula cells node))))
+    0
+
+unfoldable pub watchNumber : List Cell → ℕ → ℕ
+watchNumber cells i = cond (eqb (i % 2) 0) (cellAt cells (i / 2) .first) (cellAt cells (i / 2) .second)
+
+-- The numbers of a run, part by part.
+unfoldable pub encode : Formula → Run → List ℕ
+encode formula run =
+    length (run .trail) ∷ length (decisions (run .trail)) ∷ run .conflict ∷ run .backtracks
+    ∷ (table (formula .variables) (λ (i : ℕ). literalAt (run .trail) (suc i))
+    ++ (table (formula .variables) (λ (i : ℕ). levelNumber (run .trail) (suc i))
+    ++ (table (formula .variables) (λ (i : ℕ). valueNumber (run .trail) (suc i))
+    ++ (table (2 * formula .variables) (λ (i : ℕ). headNumber formula (run .cells) (run .lists) (i + 2))
+    ++ (table (2 * length (formula .clauses)) (watchNumber (run .cells))
+    ++ (table (length (formula .clauses)) (λ (c : ℕ). cellAt (run .cells) c .pointer)
+    ++ (table (2 * length (formula .clauses)) (λ (i : ℕ). linkNumber formula (run .cells) (run .lists) (suc i))
+    ++ table (length (formula .clauses)) (λ (c : ℕ). getD (run .checks) c 0))))))))
+
+-- What numbers hold. A trail literal is a decision where its level is not that of the place before it.
+unfoldable pub levelBefore : ℕ → List ℕ → ℕ → ℕ
+levelBefore v numbers zero = 0
+levelBefore v numbers (suc i) = getD numbers (levelsAt v + i) 0
+
+unfoldable pub heldTrail : ℕ → List ℕ → ℕ → List Entry
+heldTrail v numbers zero = []
+heldTrail v numbers (suc i) =
+    record {
+      literal = getD numbers (trailAt + i) 0;
+      decided = not (eqb (getD numbers (levelsAt v + i) 0) (levelBefore v numbers i));
+    } ∷ heldTrail v numbers i
+
+unfoldable pub heldCells : ℕ → ℕ → List ℕ → ℕ → ℕ → List Cell
+heldCells v c numbers from zero = []
+heldCells v c numbers from (suc n) =
+    record {
+      first = getD numbers (watchesAt v + 2 * from) 0;
+      second = getD numbers (watchesAt v + 2 * from + 1) 0;
+      pointer = getD numbers (pointersAt v c + from) 0;
+    } ∷ heldCells v c numbers (suc from) n
+
+-- the clauses of the nodes of a chain from a node on; no chain is longer than the number of nodes
+unfoldable pub chainFrom : ℕ → ℕ → List ℕ → ℕ → ℕ → List ℕ
+chainFrom v c numbers zero node = []
+chainFrom v c numbers (suc fuel) node =
+    let rest = (node - 1) / 2 ∷ chainFrom v c numbers fuel (getD numbers (linksAt v c + (node - 1)) 0) in
+    cond (eqb node 0) [] rest
+
+unfoldable pub heldLists : ℕ → ℕ → List ℕ → ℕ → ℕ → List (List ℕ)
+heldLists v c numbers from zero = []
+heldLists v c numbers from (suc n) =
+    chainFrom v c numbers (2 * c) (getD numbers (headsAt v + from) 0) ∷ heldLists v c numbers (suc from) n
+
+unfoldable pub held : Formula → List ℕ → Run
+held formula numbers =
+    let v = formula .variables in
+    let c = length (formula .clauses) in
+    record {
+      trail = heldTrail v numbers (getD numbers 0 0);
+      cells = heldCells v c numbers 0 c;
+      lists = [] ∷ [] ∷ heldLists v c numbers 0 (2 * v);
+      conflict = getD numbers 2 0;
+      checks = take c (drop (checksAt v c) numbers);
+      backtracks = getD numbers 3 0;
+    }
