@@ -6,3 +6,6 @@ pub mod Pigeonhole
 pub mod Same
 pub mod Until
 pub mod Copies
+pub mod ForAll
+pub mod Occurrences
+pub mod Tables

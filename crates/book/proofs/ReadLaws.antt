@@ -19,37 +19,37 @@ use Rattle.book.proofs.NumberLaws.{length-numbers}
 
 -- what is promised of an answer and of the lent numbers
 abbrev pub Answered : Judged → List ℕ → Reading → List ℕ → Type 0
-Answered judged lent answer after = (answer ≡ answerTo judged (length lent)) × (after ≡ numbersAfter judged lent)
+Answered judged buffer answer after = (answer ≡ answerTo judged (length buffer)) × (after ≡ numbersAfter judged buffer)
 
-pub answer-refused : (judged : Judged) (lent : List ℕ) (number : ℕ) → judged ≡ refused number → Answered judged lent (Refused number) lent
-answer-refused judged lent number e = rw e (refl, refl)
+pub answer-refused : (judged : Judged) (buffer : List ℕ) (number : ℕ) → judged ≡ refused number → Answered judged buffer (Refused number) buffer
+answer-refused judged buffer number e = rw e (refl, refl)
 
-module _ (judged : Judged) (formula : Formula) (is : judged ≡ accepted formula) (lent : List ℕ) where
-  pub answer-short : length lent < length (numbersOf formula) → Answered judged lent (Refused 10) lent
-  answer-short h = rw (is, lt-ltb (length lent) (length (numbersOf formula)) h) (refl, refl)
+module _ (judged : Judged) (formula : Formula) (is : judged ≡ accepted formula) (buffer : List ℕ) where
+  pub answer-short : length buffer < length (numbersOf formula) → Answered judged buffer (Refused 10) buffer
+  answer-short h = rw (is, lt-ltb (length buffer) (length (numbersOf formula)) h) (refl, refl)
 
-  pub answer-book : length (numbersOf formula) ≤ length lent
-      → Answered judged lent
+  pub answer-book : length (numbersOf formula) ≤ length buffer
+      → Answered judged buffer
       (Book (formula .variables) (length (formula .clauses)) (length (literals formula)))
-      (numbersOf formula ++ drop (length (numbersOf formula)) lent)
-  answer-book h = rw (is, le-ltb (length lent) (length (numbersOf formula)) h) (refl, refl)
+      (numbersOf formula ++ drop (length (numbersOf formula)) buffer)
+  answer-book h = rw (is, le-ltb (length buffer) (length (numbersOf formula)) h) (refl, refl)
 
 -- a text that is not too long is what the walk says
 pub read-walked : (text : List ℕ) (judged : Judged) → length text ≤ maxText → walkLines (linesOf text) ≡ judged → readText text ≡ judged
 read-walked text judged h e = read-is-walk text (le-ltb maxText (length text) h) ∙ e
 
-module _ (text numbers : List ℕ) (variables clauses total : ℕ) (r : Read text numbers variables clauses total) (short : length text ≤ maxText) (lent : List ℕ) where
+module _ (text numbers : List ℕ) (variables clauses total : ℕ) (r : Read text numbers variables clauses total) (short : length text ≤ maxText) (buffer : List ℕ) where
   pub length-read : length (numbersOf (r .formula)) ≡ clauses + total + 4
   length-read = length-numbers (r .formula) ∙ rw (r .same-clauses, r .same-literals)
 
   is-read : readText text ≡ accepted (r .formula)
   is-read = read-walked text (accepted (r .formula)) short (r .is-accepted)
 
-  pub read-short : length lent < clauses + total + 4 → Answered (readText text) lent (Refused 10) lent
-  read-short h = answer-short (readText text) (r .formula) is-read lent (omega (arith, length-read))
+  pub read-short : length buffer < clauses + total + 4 → Answered (readText text) buffer (Refused 10) buffer
+  read-short h = answer-short (readText text) (r .formula) is-read buffer (omega (arith, length-read))
 
-  pub read-book : clauses + total + 4 ≤ length lent
-      → Answered (readText text) lent (Book variables clauses total) (take (clauses + total + 4) numbers ++ drop (clauses + total + 4) lent)
+  pub read-book : clauses + total + 4 ≤ length buffer
+      → Answered (readText text) buffer (Book variables clauses total) (take (clauses + total + 4) numbers ++ drop (clauses + total + 4) buffer)
   read-book h =
       rw (r .front, ← length-read, ← (r .same-variables), ← (r .same-clauses), ← (r .same-literals))
-      (answer-book (readText text) (r .formula) is-read lent (omega (arith, length-read)))
+      (answer-book (readText text) (r .formula) is-read buffer (omega (arith, length-read)))

@@ -20,6 +20,6 @@ answerTo (accepted formula) room =
 
 -- The book numbers, followed by what lay behind them; a refusal changes nothing.
 abbrev pub numbersAfter : Judged → List ℕ → List ℕ
-numbersAfter (refused number) lent = lent
-numbersAfter (accepted formula) lent =
-    cond (ltb (length lent) (length (numbersOf formula))) lent (numbersOf formula ++ drop (length (numbersOf formula)) lent)
+numbersAfter (refused number) buffer = buffer
+numbersAfter (accepted formula) buffer =
+    cond (ltb (length buffer) (length (numbersOf formula))) buffer (numbersOf formula ++ drop (length (numbersOf formula)) buffer)

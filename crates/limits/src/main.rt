@@ -1,9 +1,9 @@
 // Executes the limits of document 01 on the code: one printed line for each, held to the stored `stdout`.
+mod buffer;
 mod build;
 mod clauses;
 mod form;
 mod header;
-mod lent;
 mod orders;
 mod places;
 mod table;
@@ -16,6 +16,6 @@ fn main() {
     clauses::all();
     orders::all();
     places::all();
-    lent::all();
+    buffer::all();
     form::all();
 }

@@ -14,7 +14,7 @@ pub enum Kind {
     // a text's head, a piece, how often it stands, the last of the numbers behind it, the tail
     Built,
     // a text, and how many numbers are lent for its book
-    Lent,
+    Buffer,
     // book numbers
     Form,
     // V, C, the literals of a clause, L
@@ -65,10 +65,10 @@ fn print_numbers(numbers: &[u32], n: usize) {
 }
 
 // The lent numbers from a place on are as they were before the trial.
-fn untouched(lent: &[u32], from: usize) -> bool {
+fn untouched(buffer: &[u32], from: usize) -> bool {
     let mut i = from;
-    while i < lent.len() {
-        if lent[i] != LENT {
+    while i < buffer.len() {
+        if buffer[i] != LENT {
             return false;
         }
         i += 1;
@@ -77,8 +77,8 @@ fn untouched(lent: &[u32], from: usize) -> bool {
 }
 
 // Reads a text into lent numbers and prints the answer; answers how many numbers the book has, 0 at a refusal.
-fn read(text: &[u8], lent: &mut [u32]) -> usize {
-    match book::read(text, lent) {
+fn read(text: &[u8], buffer: &mut [u32]) -> usize {
+    match book::read(text, buffer) {
         Reading::Refused(number) => {
             print(b": refused ");
             print_number(wide(number));
@@ -97,15 +97,15 @@ fn read(text: &[u8], lent: &mut [u32]) -> usize {
 
 // Reads a text into as many lent numbers as the largest book has. What must not be is printed: numbers out of form, others changed.
 fn read_whole(text: &[u8]) {
-    let mut lent = [LENT; 7504];
-    let written = read(text, &mut lent);
+    let mut buffer = [LENT; 7504];
+    let written = read(text, &mut buffer);
     if written > 0 {
-        if !book::well_formed(&lent) {
+        if !book::well_formed(&buffer) {
             print(b", out of form");
         }
     }
-    if !untouched(&lent, written) {
-        print(b", lent numbers changed");
+    if !untouched(&buffer, written) {
+        print(b", buffer numbers changed");
     }
 }
 
@@ -130,11 +130,11 @@ fn read_first(bytes: &[u8], n: usize) {
 }
 
 // Says whether the lent numbers from a place on are untouched.
-fn print_rest(lent: &[u32], from: usize, said: &[u8]) {
-    if untouched(lent, from) {
+fn print_rest(buffer: &[u32], from: usize, said: &[u8]) {
+    if untouched(buffer, from) {
         print(said);
     } else {
-        print(b", lent numbers changed");
+        print(b", buffer numbers changed");
     }
 }
 
@@ -143,7 +143,7 @@ fn read_into(text: &[u8], room: usize, space: &mut [u32]) {
     if room <= space.len() {
         let written = read(text, &mut space[0..room]);
         if written == 0 {
-            print_rest(space, 0, b", lent numbers untouched");
+            print_rest(space, 0, b", buffer numbers untouched");
         } else {
             print_numbers(space, written);
             if written < room {
@@ -153,7 +153,7 @@ fn read_into(text: &[u8], room: usize, space: &mut [u32]) {
     }
 }
 
-fn lent(row: &[u8]) {
+fn buffer(row: &[u8]) {
     let mut space = [LENT; 18];
     let room = wide(number_at(row, 2));
     let span = field(row, 1);
@@ -240,9 +240,9 @@ fn trial(kind: Kind, row: &[u8]) {
             print_field(row, 0);
             built(row);
         }
-        Kind::Lent => {
+        Kind::Buffer => {
             print_field(row, 0);
-            lent(row);
+            buffer(row);
         }
         _ => {
             about_numbers(row, kind);

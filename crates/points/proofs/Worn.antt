@@ -28,7 +28,7 @@ worn-valid =
       watching = valid .watching;
       unwatched = valid .unwatched;
       listed = valid .listed;
-      settled = λ quiet. let s = valid .settled quiet in record { units-true = s .units-true; units-level = s .units-level; watches = s .watches };
+      fixpoint = λ quiet. let s = valid .fixpoint quiet in record { units-true = s .units-true; units-level = s .units-level; watches = s .watches };
       conflict-false = valid .conflict-false;
-      settled-below = λ c named some. let s = valid .settled-below c named some in record { units-true = s .units-true; units-level = s .units-level; watches = s .watches };
+      fixpoint-below = λ c named some. let s = valid .fixpoint-below c named some in record { units-true = s .units-true; units-level = s .units-level; watches = s .watches };
     }

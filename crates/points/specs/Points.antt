@@ -6,8 +6,9 @@ use mathlib.Core.Path.{_≡_, refl}
 use mathlib.Core.Bool.{true, false}
 use mathlib.Core.List.{List, [], _∷_, _++_}
 use lib.ListN.{length, take}
-use Rattle.base.specs.Lists.{all, keep, flat, empty, member, same, begins}
-use Rattle.book.specs.Formula.{Formula, positive, negative, literalWithin}
+use Rattle.base.specs.Lists.{all, any, keep, flat, empty, member, distinct, same, begins, times, table as values, upTo}
+use Rattle.book.specs.Formula.{Formula, positive, negative, literalWithin, soundClause, sound}
+use Rattle.book.specs.Numbers.{starts, numbersOf, clausesFrom, rising, wellFormed}
 use Rattle.book.specs.Text.{blank, lineEnd, extend, split, kept, linesOf, filled, wordsOf, decimal, isDigit, unsigned, unsignedToken, negativeToken, tokenOf, headed, headerIn, headerOf}
 use Rattle.book.specs.Faults.{fault, opened, closed, written, notNumber, overVariables, wrongLength, repeated, surplus, unfinished, overLiterals, faultsAt, faultsFrom, outside, bodyOf, faultsUnder, faultsOf}
 use Rattle.book.specs.Reading.{before, earlier, least, onto, clausesIn, formulaUnder, formulaIn, refused, accepted, judged, readText}
@@ -15,7 +16,10 @@ use Rattle.book.specs.Printer.{digits, printNumber}
 use Rattle.run.specs.Trail.{Entry, opposite, place, literalAt, isTrue, decisions, lowered, cut}
 use Rattle.run.specs.Scan.{Cell, watched, next, oneMore, scanFrom, scan}
 use Rattle.run.specs.Run.{Run, size, cellOf, listOf, pushFront, without, takeOut, addChecks, otherWatch, moved, scannedAction, action, onTrail, withWatches, withConflict, counted, perform, visit, readList, propagateFrom, firstCell, watchAll, fresh, assignUnit, assignUnits, openRun, decide, backtrack}
-use Rattle.run.specs.Calls.{Call, decision, takeBack, decideRefusal, backtrackRefusal, refusal, perform as performCall, step, stepAll, reference}
+use Rattle.run.specs.Calls.{Call, decision, backtrackBy, decideRefusal, backtrackRefusal, refusal, perform as performCall, step, stepAll, reference}
+use Rattle.session.specs.Layout.{valueNumber, levelNumber, nodeOf, watchLiteral, firstNode, behind, headNumber, linkNumber, watchNumber, encode, levelBefore, heldTrail, heldCells, chainFrom, heldLists, held}
+use Rattle.session.specs.Validation.{hasReason, isJustified, isWatching, isGuarded, watchesHold, isFixpoint, isConflict, isListed, isValid, passes}
+use Rattle.session.specs.Outcomes.{callRefusal, sessionBacktrackRefusal, backtrackNumbers, after as numbersAfter}
 use Rattle.run.specs.Ceiling.{checksOf, countBefore, countAtLatest, ceiling}
 
 -- a quoted text as bytes
@@ -77,7 +81,7 @@ listing =
     }
 
 abbrev pub calls : List Call
-calls = decision (negative 1) ∷ decision (negative 2) ∷ takeBack 1 ∷ decision (negative 3) ∷ decision (positive 1) ∷ takeBack 3 ∷ []
+calls = decision (negative 1) ∷ decision (negative 2) ∷ backtrackBy 1 ∷ decision (negative 3) ∷ decision (positive 1) ∷ backtrackBy 3 ∷ []
 
 abbrev pub after : ℕ → Run
 after n = reference listing (take n calls)
@@ -93,6 +97,10 @@ worn n =
       checks = after 2 .checks;
       backtracks = n;
     }
+
+-- the session that holds it, in just the required length
+abbrev pub wornSession : List ℕ
+wornSession = encode listing (worn 999999)
 
 -- three clauses of which two come to watch one literal
 abbrev pub sharing : Formula
@@ -143,7 +151,7 @@ pub record Table : Type 0 where
   pub opposed-text : readText (bytes "p cnf 1 2\n1 0\n-1 0\n") ≡ accepted opposed
   pub opposed-conflict : openRun opposed .conflict ≡ 2
   pub opposed-decision : refusal opposed (decision (positive 1)) (openRun opposed) ≡ 14
-  pub opposed-backtrack : refusal opposed (takeBack 1) (openRun opposed) ≡ 16
+  pub opposed-backtrack : refusal opposed (backtrackBy 1) (openRun opposed) ≡ 16
   -- The listing: its book and the lines `-1`, `-2`, `b 1`, `-3`, `1`, `b 3`; the trail at the opening and after each accepted line.
   pub listing-text : readText (bytes "p cnf 4 3\n1 2 3 0\n-3 4 0\n-4 -2 1 0\n") ≡ accepted listing
   pub listing-open : trailOf (after 0) ≡ []
@@ -153,7 +161,7 @@ pub record Table : Type 0 where
   pub listing-4 : trailOf (after 4) ≡ decided (negative 1) ∷ decided (negative 3) ∷ implied (positive 2) ∷ implied (negative 4) ∷ []
   -- `refused 15`, `refused 16`; `end choices 2 backs 1 checks 4`.
   pub listing-5 : refusal listing (decision (positive 1)) (after 4) ≡ 15
-  pub listing-6 : refusal listing (takeBack 3) (after 5) ≡ 16
+  pub listing-6 : refusal listing (backtrackBy 3) (after 5) ≡ 16
   pub end-conflict : after 6 .conflict ≡ 0
   pub end-decisions : length (decisions (after 6 .trail)) ≡ 2
   pub end-backtracks : after 6 .backtracks ≡ 1
@@ -167,8 +175,11 @@ pub record Table : Type 0 where
   pub clause-2 : checksOf (after 6) 1 ≡ 0
   -- In a passing session with two choices in force that records 999,999 take-backs, one more, of 1, is taken, the next of 1 gives 17.
   pub worn-decisions : length (decisions (worn 999999 .trail)) ≡ 2
-  pub worn-taken : refusal listing (takeBack 1) (worn 999999) ≡ 0
-  pub worn-refused : refusal listing (takeBack 1) (step listing (worn 999999) (takeBack 1)) ≡ 17
+  pub worn-taken : refusal listing (backtrackBy 1) (worn 999999) ≡ 0
+  pub worn-refused : refusal listing (backtrackBy 1) (step listing (worn 999999) (backtrackBy 1)) ≡ 17
+  pub worn-held : held listing wornSession .backtracks ≡ 999999
+  pub worn-session-taken : sessionBacktrackRefusal (numbersOf listing) wornSession 1 ≡ 0
+  pub worn-session-refused : sessionBacktrackRefusal (numbersOf listing) (backtrackNumbers (numbersOf listing) wornSession 1) 1 ≡ 17
   -- Not marked, and pinned by no theorem: the order of a watch list. A rule goes to the front of its watches' lists at the opening; a
   -- rule whose watch moves goes to the front of the new literal's list, and the watch keeps its place in the pair.
   -- A list is read front to back, and the rules that stay keep their order.
@@ -179,16 +190,16 @@ pub record Table : Type 0 where
   pub order-read : trailOf (reference crossed (decision (negative 1) ∷ [])) ≡ decided (negative 1) ∷ implied (positive 5) ∷ implied (positive 2) ∷ []
   pub order-kept : listOf (reference crossed (decision (negative 1) ∷ []) .lists) (positive 1) ≡ 2 ∷ 0 ∷ []
   -- Not marked: the faults that a desk would not notice. The scan goes on behind the pointer; the pointer stays over a take-back; a watch
-  -- does not move to a literal that is false and not yet handled. And a contradiction ends the settling.
+  -- does not move to a literal that is false and not yet handled. And a contradiction ends propagation.
   pub scan-behind-pointer : checksOf (reference circled (decision (negative 1) ∷ decision (negative 3) ∷ [])) 0 ≡ 2
-  pub pointer-stays : cellOf (reference circled (decision (negative 1) ∷ takeBack 1 ∷ [])) 0 ≡ record { first = 2; second = 1; pointer = 2 }
+  pub pointer-stays : cellOf (reference circled (decision (negative 1) ∷ backtrackBy 1 ∷ [])) 0 ≡ record { first = 2; second = 1; pointer = 2 }
   pub unhandled-is-false : trailOf (reference queued (decision (negative 1) ∷ [])) ≡ decided (negative 1) ∷ implied (negative 4) ∷ implied (positive 3) ∷ []
   pub unhandled-checks : checksOf (reference queued (decision (negative 1) ∷ [])) 0 ≡ 1
   pub conflict-ends-trail : trailOf (reference torn (decision (negative 1) ∷ [])) ≡ decided (negative 1) ∷ implied (negative 2) ∷ []
   pub conflict-ends-named : reference torn (decision (negative 1) ∷ []) .conflict ≡ 2
 
 pub table : Table
-unfolding all keep flat empty member same begins literalWithin blank lineEnd extend split kept linesOf filled wordsOf decimal isDigit unsigned unsignedToken negativeToken tokenOf headed headerIn headerOf fault opened closed written notNumber overVariables wrongLength repeated surplus unfinished overLiterals faultsAt faultsFrom outside bodyOf faultsUnder faultsOf before earlier least onto clausesIn formulaUnder formulaIn judged readText digits opposite place literalAt isTrue decisions lowered cut watched next oneMore scanFrom scan pushFront without takeOut addChecks otherWatch moved scannedAction action onTrail withWatches withConflict counted perform visit readList propagateFrom firstCell watchAll fresh assignUnit assignUnits openRun decide backtrack decideRefusal backtrackRefusal refusal performCall step stepAll reference countAtLatest bytes counting positives reversed total
+unfolding any distinct times values upTo soundClause sound starts numbersOf clausesFrom rising wellFormed valueNumber levelNumber nodeOf watchLiteral firstNode behind headNumber linkNumber watchNumber encode levelBefore heldTrail heldCells chainFrom heldLists held hasReason isJustified isWatching isGuarded watchesHold isFixpoint isConflict isListed isValid passes callRefusal sessionBacktrackRefusal backtrackNumbers numbersAfter all keep flat empty member same begins literalWithin blank lineEnd extend split kept linesOf filled wordsOf decimal isDigit unsigned unsignedToken negativeToken tokenOf headed headerIn headerOf fault opened closed written notNumber overVariables wrongLength repeated surplus unfinished overLiterals faultsAt faultsFrom outside bodyOf faultsUnder faultsOf before earlier least onto clausesIn formulaUnder formulaIn judged readText digits opposite place literalAt isTrue decisions lowered cut watched next oneMore scanFrom scan pushFront without takeOut addChecks otherWatch moved scannedAction action onTrail withWatches withConflict counted perform visit readList propagateFrom firstCell watchAll fresh assignUnit assignUnits openRun decide backtrack decideRefusal backtrackRefusal refusal performCall step stepAll reference countAtLatest bytes counting positives reversed total
 table =
     record {
       literals-255 = refl;
@@ -224,6 +235,9 @@ table =
       worn-decisions = refl;
       worn-taken = refl;
       worn-refused = refl;
+      worn-held = refl;
+      worn-session-taken = refl;
+      worn-session-refused = refl;
       order-open = refl;
       order-moved = refl;
       order-left = refl;

@@ -15,7 +15,7 @@ use Rattle.book.specs.Formula.{Formula}
 use Rattle.run.specs.Run.{Run, clauseOf, size, noCell, cellOf, maxCount, addChecks, moved, Action, stays, moves, implies, conflicts, action, onTrail, withWatches, withConflict, counted, perform, visit, inConflict}
 use Rattle.run.specs.Ceiling.{checksOf, ceiling}
 use Rattle.run.proofs.Clauses.{clause-exists}
-use Rattle.run.proofs.Settling.{Structure}
+use Rattle.run.proofs.Propagation.{Structure}
 use Rattle.run.proofs.Visits.{Seen}
 use Rattle.run.proofs.CeilingClause.{Visited, Spending, Spent, spending-within, spending-stays, visit-spends}
 

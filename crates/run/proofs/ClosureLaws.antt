@@ -111,7 +111,7 @@ module _ (formula : Formula) (s : sound formula ≡ true) (run : Run) (v : Valid
           let at = position l (clauseOf formula c) h in
           let zeroth : at .0 ≡ 0 = omega arith in
           let single : size formula c ≡ 1 = omega arith in
-          rw (sym (at .2) ∙ ap (λ (i : ℕ). getD (clauseOf formula c) i 0) zeroth) (v .settled quiet .units-true c single)
+          rw (sym (at .2) ∙ ap (λ (i : ℕ). getD (clauseOf formula c) i 0) zeroth) (v .fixpoint quiet .units-true c single)
 
       go : (leb 2 (size formula c) ≡ true) ⊎ (leb 2 (size formula c) ≡ false) → isTrue (run .trail) l ≡ true
       go (inr small) = one-literal (leb-false 2 (size formula c) small)
@@ -136,7 +136,7 @@ module _ (formula : Formula) (s : sound formula ≡ true) (run : Run) (v : Valid
           b-in = member-at (clauseOf formula c) _ (w .second-within)
 
           hold : WatchesHold (run .trail) a b
-          hold = v .settled quiet .watches c two
+          hold = v .fixpoint quiet .watches c two
 
           watches : (a ≡ l) ⊎ (a ≡ l → ⊥) → (b ≡ l) ⊎ (b ≡ l → ⊥) → isTrue (run .trail) l ≡ true
           watches p (inl e) =
@@ -149,8 +149,8 @@ module _ (formula : Formula) (s : sound formula ≡ true) (run : Run) (v : Valid
           watches (inr p) (inr q) = absurd (not-both a (other-true a b hold (others b b-in q)) (others a a-in p))
 
   -- a literal of the closure is on the trail, out of conflict, and the trail is in the closure
-  pub settled-closure : run .conflict ≡ 0 → (l : ℕ) → (isTrue (run .trail) l ≡ true) ↔ Closure formula (decisions (run .trail)) l
-  settled-closure quiet l = (
+  pub assigned-closure : run .conflict ≡ 0 → (l : ℕ) → (isTrue (run .trail) l ≡ true) ↔ Closure formula (decisions (run .trail)) l
+  assigned-closure quiet l = (
     trail-closure formula (run .trail) (v .justified) l,
     closure-within (λ (m : ℕ). isTrue (run .trail) m ≡ true) (decisions-true (run .trail)) (trail-closed quiet),
   )
@@ -175,4 +175,4 @@ module _ (formula : Formula) (s : sound formula ≡ true) (run : Run) (v : Valid
       back b (inl e) = e
       back b (inr e) =
           let quiet : run .conflict ≡ 0 = eqb-true (run .conflict) 0 (not-false (eqb (run .conflict) 0) e) in
-          absurd (not-both (b .0) (settled-closure quiet (b .0) .1 (b .1)) (settled-closure quiet (opposite (b .0)) .1 (b .2)))
+          absurd (not-both (b .0) (assigned-closure quiet (b .0) .1 (b .1)) (assigned-closure quiet (opposite (b .0)) .1 (b .2)))

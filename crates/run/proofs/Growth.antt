@@ -1,4 +1,4 @@
--- Settling only adds implied literals to the trail.
+-- Propagation only adds implied literals to the trail.
 use Prim.Native.Nat.{ℕ, zero, suc}
 use mathlib.Core.Bool.{Bool, true, false, cond, not}
 use mathlib.Core.List.{List, [], _∷_, _++_}

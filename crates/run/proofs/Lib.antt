@@ -7,7 +7,7 @@ pub mod Order
 pub mod WatchLists
 pub mod Inductions
 pub mod Growth
-pub mod Settling
+pub mod Propagation
 pub mod Visits
 pub mod Validity
 pub mod Opening

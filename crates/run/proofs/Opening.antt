@@ -1,4 +1,4 @@
--- The opening: the first watches and lists, the clauses of one literal, and that settling begins from there.
+-- The opening: the first watches and lists, the clauses of one literal, and that propagation begins from there.
 use Prim.Native.Nat.{ℕ, zero, suc, _+_, _*_, _≤_, _<_}
 use native.Mathlib.Nat.{add-zero, zero-add}
 use native.Mathlib.Omega.{arith}
@@ -22,7 +22,7 @@ use Rattle.run.proofs.Trails.{true-place, untrue-place, place-new, leve
 use Rattle.run.proofs.Order.{pushed-first, pushed-elsewhere, pushed-length}
 use Rattle.run.proofs.Clauses.{clause-exists, literal-within, literal-listed}
 use Rattle.run.proofs.WatchLists.{secondLiteral, firstLiteral, Watched, cellAt, among}
-use Rattle.run.proofs.Settling.{old-stays, Structure, structure-valid, Going, Ended, quiet-out}
+use Rattle.run.proofs.Propagation.{old-stays, Structure, structure-valid, Going, Ended, quiet-out}
 use Rattle.run.proofs.Visits.{trailed-push}
 
 -- how often clause d stands in the list of l after clause c was put at the front of the list of a
@@ -339,7 +339,7 @@ opened-going {formula} {run} o =
           };
     }
 
--- after its one-literal clauses the opening settles from the first trail literal on, or has ended in a conflict
+-- after its one-literal clauses the opening propagates from the first trail literal on, or has ended in a conflict
 pub opening-state : (formula : Formula) → sound formula ≡ true
     → Going formula 0 (assignUnits 0 (formula .clauses) (fresh formula)) ⊎ Ended formula (assignUnits 0 (formula .clauses) (fresh formula))
 opening-state formula s =

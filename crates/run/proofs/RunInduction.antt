@@ -13,11 +13,11 @@ use Rattle.book.specs.Formula.{Formula, sound}
 use Rattle.run.specs.Trail.{isTrue, isFalse}
 use Rattle.run.specs.Run.{Run, listOf, onTrail, withConflict, visit, inConflict, propagate, fresh, assignUnit, assignUnits, openRun, decide, backtrack}
 use Rattle.run.specs.Calls
-use Rattle.run.specs.Calls.{Call, decision, takeBack, decideRefusal, backtrackRefusal, refusal, step, stepAll, reference}
+use Rattle.run.specs.Calls.{Call, decision, backtrackBy, decideRefusal, backtrackRefusal, refusal, step, stepAll, reference}
 use Rattle.run.specs.Valid.{Valid}
 use Rattle.run.specs.Ceiling.{checksOf, countAtLatest, countBefore}
 use Rattle.run.proofs.Inductions.{read-induction, nextRead, readNext, propagate-induction}
-use Rattle.run.proofs.Settling.{Structure, Going, Ended, Reading, quiet-out}
+use Rattle.run.proofs.Propagation.{Structure, Going, Ended, Reading, quiet-out}
 use Rattle.run.proofs.Visits.{Seen, seen, visit-outcome}
 use Rattle.run.proofs.Validity.{reading-begins, reading-ends, short, decision-accepted, decision-going}
 use Rattle.run.proofs.Opening.{opening-state}
@@ -34,7 +34,7 @@ pub record Keeps (formula : Formula) (c : ℕ) (K : ℕ → Run → Type 0) : Ty
       → K (checksOf run c) (backtrack k run)
 
 module _ (formula : Formula) (ok : sound formula ≡ true) (c : ℕ) (K : ℕ → Run → Type 0) (keeps : Keeps formula c K) where
-  -- settling keeps it
+  -- propagation keeps it
   reading-keeps : (before handled q d : ℕ) (unread : List ℕ) (run : Run) → Reading formula handled q (d ∷ unread) run → K before run
       → K before (visit formula q d run)
   reading-keeps before handled q d unread run r k =
@@ -124,7 +124,7 @@ module _ (formula : Formula) (ok : sound formula ≡ true) (c : ℕ) (K : ℕ �
           let accepted : decideRefusal formula l run ≡ 0 = eqb-true (decideRefusal formula l run) 0 e in
           later (decide formula l run) (decide-valid formula l run ok v accepted) (decide-keeps before l run accepted v k)
       go false e later = later run v k
-  calls-keep (takeBack m ∷ calls) before run v k =
+  calls-keep (backtrackBy m ∷ calls) before run v k =
       go (eqb (backtrackRefusal m run) 0) refl (λ count next. calls-keep calls count next)
     where
       go : (t : Bool) → eqb (backtrackRefusal m run) 0 ≡ t

@@ -14,7 +14,7 @@ use Rattle.book.specs.Formula.{Formula, sound}
 use Rattle.run.specs.Trail.{Entry, isTrue, isFalse, decisions, cut}
 use Rattle.run.specs.Scan.{Cell}
 use Rattle.run.specs.Run.{Run, clauseOf, Action, moves, action, onTrail, inConflict, propagateFrom, fresh, assignUnits, openRun, decide, backtrack}
-use Rattle.run.specs.Calls.{Call, decision, takeBack, decideRefusal, backtrackRefusal, refusal, perform, step, stepAll, reference}
+use Rattle.run.specs.Calls.{Call, decision, backtrackBy, decideRefusal, backtrackRefusal, refusal, perform, step, stepAll, reference}
 use Rattle.run.specs.Valid.{Valid}
 use Rattle.run.specs.Closure.{Closure, UnitClosed, Holds, BothWays}
 use Rattle.run.proofs.Trails.{suffix-append, cut-suffix, cut-decisions}
@@ -23,7 +23,7 @@ use Rattle.run.proofs.Growth.{same, grown-by, propagating-grows}
 use Rattle.run.proofs.Visits.{Case, staying, moving, implying, conflicting, action-case}
 use Rattle.run.proofs.Validity.{propagated, fuel-enough, decision-accepted, decision-going, decided-valid, backtrack-accepted, backtracked-valid}
 use Rattle.run.proofs.Opening.{opening-state}
-use Rattle.run.proofs.ClosureLaws.{closure-within, closure-holds, closure-closed, closure-grows, settled-closure, conflict-both-ways}
+use Rattle.run.proofs.ClosureLaws.{closure-within, closure-holds, closure-closed, closure-grows, assigned-closure, conflict-both-ways}
 
 -- Every reference run is valid.
 pub open-valid : (formula : Formula) → sound formula ≡ true → Valid formula (openRun formula)
@@ -42,7 +42,7 @@ perform-valid : (formula : Formula) (run : Run) → sound formula ≡ true → (
     → Valid formula (perform formula call run)
 unfolding perform refusal
 perform-valid formula run s (decision l) v z = decide-valid formula l run s v z
-perform-valid formula run s (takeBack k) v z = backtrack-valid formula k run s v z
+perform-valid formula run s (backtrackBy k) v z = backtrack-valid formula k run s v z
 
 pub step-valid : (formula : Formula) (run : Run) → sound formula ≡ true → (call : Call) → Valid formula run
     → Valid formula (step formula run call)
@@ -75,9 +75,9 @@ pub closure-least : (formula : Formula) (ds : List ℕ)
     × ((S : ℕ → Type 0) → Holds ds S → UnitClosed formula S → (l : ℕ) → Closure formula ds l → S l)
 closure-least formula ds = (closure-holds formula ds, closure-closed formula ds, λ S holds closed l k. closure-within S holds closed k)
 
-pub settled-is-closure : (formula : Formula) (run : Run) → sound formula ≡ true → Valid formula run → run .conflict ≡ 0 → (l : ℕ)
+pub assigned-is-closure : (formula : Formula) (run : Run) → sound formula ≡ true → Valid formula run → run .conflict ≡ 0 → (l : ℕ)
     → (isTrue (run .trail) l ≡ true) ↔ Closure formula (decisions (run .trail)) l
-settled-is-closure formula run s v = settled-closure formula s run v
+assigned-is-closure formula run s v = assigned-closure formula s run v
 
 pub conflict-is-both-ways : (formula : Formula) (run : Run) → sound formula ≡ true → Valid formula run
     → (inConflict run ≡ true) ↔ BothWays (Closure formula (decisions (run .trail)))
@@ -121,10 +121,10 @@ same-decisions-agree formula a b s v w same-ds p q l =
     (λ t. on-a .1 (closure-grows (decisions (a .trail)) (λ m h. same-ds m ∙ h) (on-b .0 t)))
   where
     on-a : (isTrue (a .trail) l ≡ true) ↔ Closure formula (decisions (a .trail)) l
-    on-a = settled-closure formula s a v p l
+    on-a = assigned-closure formula s a v p l
 
     on-b : (isTrue (b .trail) l ≡ true) ↔ Closure formula (decisions (b .trail)) l
-    on-b = settled-closure formula s b w q l
+    on-b = assigned-closure formula s b w q l
 
 pub conflicting-decisions : (formula : Formula) (a b : Run) → sound formula ≡ true → Valid formula a → Valid formula b
     → ((l : ℕ) → member l (decisions (a .trail)) ≡ member l (decisions (b .trail)))

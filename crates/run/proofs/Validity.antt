@@ -1,4 +1,4 @@
--- Settling ends in a valid run, and a decision and a backtrack keep a run valid.
+-- Propagation ends in a valid run, and a decision and a backtrack keep a run valid.
 use Prim.Native.Nat.{ℕ, zero, suc, _+_, _/_, _≤_, _<_}
 use native.Mathlib.Omega.{arith}
 use mathlib.Core.Bool.{Bool, true, false, cond, _&&_}
@@ -21,7 +21,7 @@ use Rattle.run.specs.Valid.{one, Justified, Valid}
 use Rattle.run.proofs.Trails.{opposite-opposite, opposite-injective, untrue-place, place-of-literal, place-injective, variables, variable-on, place-true, Suffix, whole, newer, suffix-distinct, lowered-cases, lowered-suffix, lowered-count, suffix-true, cut-suffix}
 use Rattle.run.proofs.WatchLists.{secondLiteral, firstLiteral, among}
 use Rattle.run.proofs.Inductions.{read-induction, nextRead, readNext, propagate-induction, enough-fuel}
-use Rattle.run.proofs.Settling.{Guard, Kept, Pending, pending-push, pending-lowered, unsettle, Trailed, valid-structure, Going, Ended, Reading, quiet-out, going-valid}
+use Rattle.run.proofs.Propagation.{Guard, Kept, Pending, pending-push, pending-lowered, unfixed, Trailed, valid-structure, Going, Ended, Reading, quiet-out, going-valid}
 use Rattle.run.proofs.Visits.{trailed-push, visit-outcome}
 
 -- the trail holds no more literals than there are variables
@@ -156,7 +156,7 @@ decision-accepted formula l run z = go (literalWithin (formula .variables) l) re
     go true p true q a r z = absurd (omega arith)
     go false p c q a r z = absurd (omega arith)
 
--- a decision begins settling with all literals before it handled
+-- a decision begins propagation with all literals before it handled
 pub decision-going : {formula : Formula} {l : ℕ} {run : Run} → Valid formula run → Accepted formula l run
     → Going formula (length (run .trail)) (onTrail l true run)
 unfolding onTrail
@@ -169,7 +169,7 @@ decision-going {formula} {l} {run} v a =
             counted = valid-structure v .counted;
           };
       quiet = a .quiet;
-      pending = pending-push e off (omega arith) low (unsettle run (v .trail-distinct) (v .settled (a .quiet)));
+      pending = pending-push e off (omega arith) low (unfixed run (v .trail-distinct) (v .fixpoint (a .quiet)));
     }
   where
     e : Entry
@@ -211,14 +211,14 @@ pending-cut (suc k) trail d h p =
     pending-cut k (lowered trail) (suffix-distinct (lowered-suffix trail) d) (omega (arith, lowered-count trail))
     (pending-lowered d (omega arith) p)
 
--- below the top level of a valid run all is settled, in conflict too
+-- below the top level of a valid run the fixpoint holds, in conflict too
 pending-below : {formula : Formula} {run : Run} → Valid formula run → 0 < length (decisions (run .trail))
     → Pending formula (run .cells) (lowered (run .trail)) (length (lowered (run .trail)))
 pending-below {formula} {run} v some = go (run .conflict) refl
   where
     go : (name : ℕ) → run .conflict ≡ name → Pending formula (run .cells) (lowered (run .trail)) (length (lowered (run .trail)))
-    go zero e = pending-lowered (v .trail-distinct) some (unsettle run (v .trail-distinct) (v .settled e))
-    go (suc c) e = unsettle run (suffix-distinct (lowered-suffix (run .trail)) (v .trail-distinct)) (v .settled-below c e some)
+    go zero e = pending-lowered (v .trail-distinct) some (unfixed run (v .trail-distinct) (v .fixpoint e))
+    go (suc c) e = unfixed run (suffix-distinct (lowered-suffix (run .trail)) (v .trail-distinct)) (v .fixpoint-below c e some)
 
 -- what an accepted backtrack says
 pub backtrack-accepted : (k : ℕ) (run : Run) → backtrackRefusal k run ≡ 0

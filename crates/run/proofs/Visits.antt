@@ -22,7 +22,7 @@ use Rattle.run.proofs.ScanLaws.{pointer-within, scan-found, scan-none}
 use Rattle.run.proofs.Trails.{PlaceCase, opposite-opposite, opposite-other, opposite-injective, true-place, place-true, untrue-place, place-untrue, place-new, place-old, place-cases, place-within, place-injective, variables, off-trail, consistent, decided-count, lowered-cases, level-within, top-level}
 use Rattle.run.proofs.Clauses.{clause-exists, literal-within}
 use Rattle.run.proofs.WatchLists.{Watched, Sides, Order, forth, back, apart-unwatched, listed-size, listed-sides, listed-once, sides-differ, moved-times, moved-watched, cell-after, cell-others}
-use Rattle.run.proofs.Settling.{KeptAt, Kept, kept-swap, old-stays, kept-push, pending-push, settle, pending-lowered, Trailed, Counted, structure-valid, Ended, Reading}
+use Rattle.run.proofs.Propagation.{KeptAt, Kept, kept-swap, old-stays, kept-push, pending-push, propagation, pending-lowered, Trailed, Counted, structure-valid, Ended, Reading}
 
 -- Which action it is, and what that says.
 pub data Case (trail : List Entry) (clause : List ℕ) (cell : Cell) (q : ℕ) : Action → Type 0 where
@@ -392,7 +392,7 @@ module _ (formula : Formula) (s : sound formula ≡ true) (handled q c : ℕ) (u
             })
             (λ z. absurd (omega arith))
             (λ d z. rw (same d z) (clause-exists formula c (omega (arith, here .two)), clause-false))
-            (λ d z some. settle (perform formula q c (conflicts made) run) (pending-lowered once some (r .going .pending)) (omega arith));
+            (λ d z some. propagation (perform formula q c (conflicts made) run) (pending-lowered once some (r .going .pending)) (omega arith));
         loud = rw (ne-eqb (suc c) 0 (λ z. omega arith));
       }
     where

@@ -11,7 +11,7 @@ use Rattle.run.specs.Run.{Run, inConflict, openRun, decide, backtrack}
 -- What follows an accepted opening: decisions (choices) of any number as literal, and backtracks (take-backs) of any number k.
 pub data Call : Type 0 where
   decision : ℕ → Call
-  takeBack : ℕ → Call
+  backtrackBy : ℕ → Call
 
 abbrev pub maxBacktracks : ℕ
 maxBacktracks = 1000000
@@ -27,11 +27,11 @@ backtrackRefusal k run =
 
 unfoldable pub refusal : Formula → Call → Run → ℕ
 refusal formula (decision l) run = decideRefusal formula l run
-refusal formula (takeBack k) run = backtrackRefusal k run
+refusal formula (backtrackBy k) run = backtrackRefusal k run
 
 unfoldable pub perform : Formula → Call → Run → Run
 perform formula (decision l) run = decide formula l run
-perform formula (takeBack k) run = backtrack k run
+perform formula (backtrackBy k) run = backtrack k run
 
 -- One call: a refused one changes nothing.
 unfoldable pub step : Formula → Run → Call → Run

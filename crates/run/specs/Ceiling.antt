@@ -6,7 +6,7 @@ use lib.Dec.{eqb}
 use lib.ListN.{getD}
 use Rattle.book.specs.Formula.{Formula}
 use Rattle.run.specs.Run.{Run, openRun}
-use Rattle.run.specs.Calls.{Call, decision, takeBack, backtrackRefusal, step}
+use Rattle.run.specs.Calls.{Call, decision, backtrackBy, backtrackRefusal, step}
 
 abbrev pub checksOf : Run → ℕ → ℕ
 checksOf run c = getD (run .checks) c 0
@@ -15,10 +15,10 @@ checksOf run c = getD (run .checks) c 0
 unfoldable pub countAtLatest : Formula → ℕ → ℕ → Run → List Call → ℕ
 countAtLatest formula c count run [] = count
 countAtLatest formula c count run (decision l ∷ calls) = countAtLatest formula c count (step formula run (decision l)) calls
-countAtLatest formula c count run (takeBack k ∷ calls) =
+countAtLatest formula c count run (backtrackBy k ∷ calls) =
     countAtLatest formula c
     (cond (eqb (backtrackRefusal k run) 0) (checksOf run c) count)
-    (step formula run (takeBack k))
+    (step formula run (backtrackBy k))
     calls
 
 -- The checks of clause c when the period began: at the latest accepted backtrack, or 0, as the opening began, where there is none.

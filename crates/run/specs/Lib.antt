@@ -1,4 +1,4 @@
--- The definitions of `run`, in the order of document 01: trail, scan, settling, calls, examination; and the closure of statement 2.
+-- The definitions of `run`, in the order of document 01: trail, scan, propagation, calls, validation; and the closure of statement 2.
 pub mod Trail
 pub mod Scan
 pub mod Run

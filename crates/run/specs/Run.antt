@@ -1,4 +1,4 @@
--- The state of the reference run (the paper's written run) and its steps: opening, settling, choice, take-back.
+-- The state of the reference run (the paper's written run) and its steps: opening, propagation (settling), decision (choice), backtrack (take-back).
 use Prim.Native.Nat.{ℕ, zero, suc, _+_, _*_, min}
 use mathlib.Core.Bool.{Bool, true, false, cond, not}
 use mathlib.Core.List.{List, [], _∷_, map}
@@ -143,7 +143,7 @@ visit formula q c run = perform formula q c (action (run .trail) (clauseOf formu
 abbrev pub inConflict : Run → Bool
 inConflict run = not (eqb (run .conflict) 0)
 
--- Settling: the watch list of q, as it stood when its reading began, front to back; a conflict ends it.
+-- Propagation: the watch list of q, as it stood when its reading began, front to back; a conflict ends it.
 unfoldable pub readList : Formula → ℕ → List ℕ → Run → Run
 readList formula q [] run = run
 readList formula q (c ∷ unread) run =
@@ -151,7 +151,7 @@ readList formula q (c ∷ unread) run =
     let rest = readList formula q unread visited in
     cond (inConflict visited) visited rest
 
--- Settling: the trail literals behind the first `handled` ones, once each, in trail order; a conflict ends it. The fuel is more than the
+-- Propagation: the trail literals behind the first `handled` ones, once each, in trail order; a conflict ends it. The fuel is more than the
 -- trail can hold.
 unfoldable pub propagateFrom : ℕ → Formula → ℕ → Run → Run
 propagateFrom zero formula handled run = run
@@ -201,7 +201,7 @@ assignUnits c (clause ∷ clauses) run =
 unfoldable pub openRun : Formula → Run
 openRun formula = propagate formula 0 (assignUnits 0 (formula .clauses) (fresh formula))
 
--- Choice: the literal joins the trail as a new level, then settling.
+-- Choice: the literal joins the trail as a new level, then propagation.
 unfoldable pub decide : Formula → ℕ → Run → Run
 decide formula l run = propagate formula (length (run .trail)) (onTrail l true run)
 

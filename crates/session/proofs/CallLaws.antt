@@ -12,60 +12,60 @@ use Rattle.book.specs.Formula.{Formula, sound}
 use Rattle.book.specs.Numbers.{wellFormed, formulaOf}
 use Rattle.book.proofs.WellFormedLaws.{well-formed-sound}
 use Rattle.run.specs.Run.{Run, openRun, decide, backtrack}
-use Rattle.run.specs.Calls.{Call, decision, takeBack, decideRefusal, backtrackRefusal, refusal, perform, step, stepAll, reference}
+use Rattle.run.specs.Calls.{Call, decision, backtrackBy, decideRefusal, backtrackRefusal, refusal, perform, step, stepAll, reference}
 use Rattle.run.specs.Valid.{Valid}
 use Rattle.run.proofs.Theorems.{open-valid, step-valid}
 use Rattle.session.specs.Layout.{requiredLength, encode, held}
-use Rattle.session.specs.Examination.{passes}
-use Rattle.session.specs.Outcomes.{after, openRefusal, openNumbers, callRefusal, decisionRefusal, decideNumbers, takeBackRefusal, backtrackNumbers, callNumbers, playedNumbers, replayNumbers}
+use Rattle.session.specs.Validation.{passes}
+use Rattle.session.specs.Outcomes.{after, openRefusal, openNumbers, callRefusal, decisionRefusal, decideNumbers, sessionBacktrackRefusal, backtrackNumbers, callNumbers, playedNumbers, replayNumbers}
 use Rattle.session.proofs.EncodeLaws.{length-encode}
 use Rattle.session.proofs.HeldLaws.{held-encode}
-use Rattle.session.proofs.ExamineLaws.{passes-encode}
+use Rattle.session.proofs.PassLaws.{passes-encode}
 
 -- numbers written anew have the same numbers behind them
-pub after-after : (formula : Formula) (old new : Run) (lent : List ℕ) → after formula new (after formula old lent) ≡ after formula new lent
+pub after-after : (formula : Formula) (old new : Run) (buffer : List ℕ) → after formula new (after formula old buffer) ≡ after formula new buffer
 unfolding after
-after-after formula old new lent =
+after-after formula old new buffer =
     ap (λ (rest : List ℕ). encode formula new ++ rest)
-    (drop-at (encode formula old) (drop (requiredLength formula) lent) (requiredLength formula) (length-encode formula old))
+    (drop-at (encode formula old) (drop (requiredLength formula) buffer) (requiredLength formula) (length-encode formula old))
 
-module _ (book lent : List ℕ) (well : wellFormed book ≡ true) (run : Run) (valid : Valid (formulaOf book) run) where
-  pub held-after : held (formulaOf book) (after (formulaOf book) run lent) ≡ run
+module _ (book buffer : List ℕ) (well : wellFormed book ≡ true) (run : Run) (valid : Valid (formulaOf book) run) where
+  pub held-after : held (formulaOf book) (after (formulaOf book) run buffer) ≡ run
   unfolding after
-  held-after = held-encode (formulaOf book) (well-formed-sound book well) run valid (drop (requiredLength (formulaOf book)) lent)
+  held-after = held-encode (formulaOf book) (well-formed-sound book well) run valid (drop (requiredLength (formulaOf book)) buffer)
 
-  pub passes-after : passes (formulaOf book) (after (formulaOf book) run lent) ≡ true
+  pub passes-after : passes (formulaOf book) (after (formulaOf book) run buffer) ≡ true
   unfolding after
-  passes-after = passes-encode (formulaOf book) (well-formed-sound book well) run valid (drop (requiredLength (formulaOf book)) lent)
+  passes-after = passes-encode (formulaOf book) (well-formed-sound book well) run valid (drop (requiredLength (formulaOf book)) buffer)
 
   -- a call is refused by what the run itself says
-  pub call-refusal : (own : Run → ℕ) → callRefusal book (after (formulaOf book) run lent) own ≡ own run
+  pub call-refusal : (own : Run → ℕ) → callRefusal book (after (formulaOf book) run buffer) own ≡ own run
   unfolding callRefusal
   call-refusal own = rw (well, passes-after) (ap own held-after)
 
   -- a call leaves the numbers of the run's next step
   chosen : (b : Bool) (next : Run)
-      → cond b (after (formulaOf book) next (after (formulaOf book) run lent)) (after (formulaOf book) run lent)
-      ≡ after (formulaOf book) (cond b next run) lent
-  chosen true next = after-after (formulaOf book) run next lent
+      → cond b (after (formulaOf book) next (after (formulaOf book) run buffer)) (after (formulaOf book) run buffer)
+      ≡ after (formulaOf book) (cond b next run) buffer
+  chosen true next = after-after (formulaOf book) run next buffer
   chosen false next = refl
 
-  pub call-numbers : (call : Call) → callNumbers book (after (formulaOf book) run lent) call ≡ after (formulaOf book) (step (formulaOf book) run call) lent
-  unfolding callNumbers decideNumbers decisionRefusal backtrackNumbers takeBackRefusal step refusal perform
+  pub call-numbers : (call : Call) → callNumbers book (after (formulaOf book) run buffer) call ≡ after (formulaOf book) (step (formulaOf book) run call) buffer
+  unfolding callNumbers decideNumbers decisionRefusal backtrackNumbers sessionBacktrackRefusal step refusal perform
   call-numbers (decision l) =
       rw (call-refusal (decideRefusal (formulaOf book) l), held-after)
       (chosen (eqb (decideRefusal (formulaOf book) l run) 0) (decide (formulaOf book) l run))
-  call-numbers (takeBack k) =
+  call-numbers (backtrackBy k) =
       rw (call-refusal (backtrackRefusal k), held-after)
       (chosen (eqb (backtrackRefusal k run) 0) (backtrack k run))
 
-pub played : (book lent : List ℕ) → wellFormed book ≡ true → (calls : List Call) (run : Run) → Valid (formulaOf book) run
-    → playedNumbers book (after (formulaOf book) run lent) calls ≡ after (formulaOf book) (stepAll (formulaOf book) run calls) lent
+pub played : (book buffer : List ℕ) → wellFormed book ≡ true → (calls : List Call) (run : Run) → Valid (formulaOf book) run
+    → playedNumbers book (after (formulaOf book) run buffer) calls ≡ after (formulaOf book) (stepAll (formulaOf book) run calls) buffer
 unfolding playedNumbers stepAll
-played book lent well [] run valid = refl
-played book lent well (call ∷ calls) run valid =
-    rw (call-numbers book lent well run valid call)
-    (played book lent well calls (step (formulaOf book) run call) (step-valid (formulaOf book) run (well-formed-sound book well) call valid))
+played book buffer well [] run valid = refl
+played book buffer well (call ∷ calls) run valid =
+    rw (call-numbers book buffer well run valid call)
+    (played book buffer well calls (step (formulaOf book) run call) (step-valid (formulaOf book) run (well-formed-sound book well) call valid))
 
 -- what an accepted opening says
 pub open-accepted : (book : List ℕ) (room : ℕ) → openRefusal book room ≡ 0 → (wellFormed book ≡ true) × (requiredLength (formulaOf book) ≤ room)
@@ -78,9 +78,9 @@ open-accepted book room e = go (wellFormed book) (ltb room (requiredLength (form
     go true false p q z = (p, ltb-false room (requiredLength (formulaOf book)) q)
     go false t p q z = absurd (omega arith)
 
-pub replayed : (book lent : List ℕ) (calls : List Call) → openRefusal book (length lent) ≡ 0
-    → replayNumbers book calls lent ≡ after (formulaOf book) (reference (formulaOf book) calls) lent
+pub replayed : (book buffer : List ℕ) (calls : List Call) → openRefusal book (length buffer) ≡ 0
+    → replayNumbers book calls buffer ≡ after (formulaOf book) (reference (formulaOf book) calls) buffer
 unfolding replayNumbers openNumbers reference
-replayed book lent calls e =
-    let well : wellFormed book ≡ true = open-accepted book (length lent) e .0 in
-    rw e (played book lent well calls (openRun (formulaOf book)) (open-valid (formulaOf book) (well-formed-sound book well)))
+replayed book buffer calls e =
+    let well : wellFormed book ≡ true = open-accepted book (length buffer) e .0 in
+    rw e (played book buffer well calls (openRun (formulaOf book)) (open-valid (formulaOf book) (well-formed-sound book well)))

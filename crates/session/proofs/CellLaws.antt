@@ -17,7 +17,7 @@ use Rattle.book.proofs.WellFormedLaws.{well-formed-parted, well-formed-limited}
 use Rattle.run.specs.Scan.{Cell}
 use Rattle.run.specs.Run.{size, noCell}
 use Rattle.session.specs.Layout.{watchesAt, pointersAt, requiredLength, cellAt, held}
-use Rattle.session.specs.Examination.{isWatching}
+use Rattle.session.specs.Validation.{isWatching}
 use Rattle.session.specs.Inner.Checks.{Says, CellsGood}
 use Rattle.session.proofs.HeldLaws.{length-cells, getD-cells}
 use Rattle.session.proofs.SaysLaws.{says-true, says-false}

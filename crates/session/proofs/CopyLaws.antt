@@ -11,7 +11,7 @@ use lib.ListN.{length, getD, take, drop, length-drop, drop-of-length-le}
 use lib.Seq.{drop-cons, take-all}
 use Rattle.base.specs.Lists.{sum}
 use Rattle.base.proofs.Copies.{Copied}
-use Rattle.run.specs.Calls.{Call, decision, takeBack}
+use Rattle.run.specs.Calls.{Call, decision, backtrackBy}
 use Rattle.session.specs.Outcomes.{copied, callsOf, decideNumbers, backtrackNumbers, callNumbers, playedNumbers}
 
 -- the sum of the first i numbers, and of all
@@ -51,7 +51,7 @@ copied-full source before now i c h =
 
 -- two numbers a call
 pub calls-more : (calls : List ℕ) (i : ℕ) → i + 1 < length calls
-    → callsOf (drop i calls) ≡ cond (eqb (getD calls i 0) 0) (decision (getD calls (i + 1) 0)) (takeBack (getD calls (i + 1) 0)) ∷ callsOf (drop (i + 2) calls)
+    → callsOf (drop i calls) ≡ cond (eqb (getD calls i 0) 0) (decision (getD calls (i + 1) 0)) (backtrackBy (getD calls (i + 1) 0)) ∷ callsOf (drop (i + 2) calls)
 unfolding callsOf
 calls-more calls i h =
     let two : drop i calls ≡ getD calls i 0 ∷ getD calls (i + 1) 0 ∷ drop (i + 2) calls
@@ -77,7 +77,7 @@ pub replaying-none : (book calls opened : List ℕ) → Replaying book calls ope
 replaying-none book calls opened = record { within = omega arith; same-length = refl; same = refl }
 
 module _ (book calls opened session next : List ℕ) (i : ℕ) (r : Replaying book calls opened session i) (h : i + 1 < length calls) (l : length next ≡ length session) where
-  step : (call : Call) → cond (eqb (getD calls i 0) 0) (decision (getD calls (i + 1) 0)) (takeBack (getD calls (i + 1) 0)) ≡ call → next ≡ callNumbers book session call
+  step : (call : Call) → cond (eqb (getD calls i 0) 0) (decision (getD calls (i + 1) 0)) (backtrackBy (getD calls (i + 1) 0)) ≡ call → next ≡ callNumbers book session call
       → Replaying book calls opened next (i + 2)
   unfolding playedNumbers
   step call k e =
@@ -93,7 +93,7 @@ module _ (book calls opened session next : List ℕ) (i : ℕ) (r : Replaying bo
 
   pub replaying-backtrack : (getD calls i 0 ≡ 0 → ⊥) → next ≡ backtrackNumbers book session (getD calls (i + 1) 0) → Replaying book calls opened next (i + 2)
   unfolding callNumbers
-  replaying-backtrack k e = step (takeBack (getD calls (i + 1) 0)) (rw (ne-eqb (getD calls i 0) 0 k)) e
+  replaying-backtrack k e = step (backtrackBy (getD calls (i + 1) 0)) (rw (ne-eqb (getD calls i 0) 0 k)) e
 
 pub replaying-all : (book calls opened session : List ℕ) (i : ℕ) → Replaying book calls opened session i → length calls ≤ i + 1 → session ≡ playedNumbers book opened (callsOf calls)
 unfolding playedNumbers

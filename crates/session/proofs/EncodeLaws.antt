@@ -18,10 +18,10 @@ use Rattle.run.specs.Valid.{Valid}
 use Rattle.run.proofs.Clauses.{clause-exists}
 use Rattle.book.proofs.SoundLaws.{literal-parts}
 use Rattle.run.proofs.WatchLists.{Watched, listed-size, listed-once}
-use Rattle.run.proofs.Settling.{valid-structure}
+use Rattle.run.proofs.Propagation.{valid-structure}
 use Rattle.session.specs.Layout.{trailAt, levelsAt, valuesAt, headsAt, watchesAt, pointersAt, linksAt, checksAt, required, requiredLength, valueNumber, levelNumber, cellAt, watchLiteral, nodeOf, headNumber, linkNumber, watchNumber, encode}
 use Rattle.session.specs.Inner.Encodes.{headSlot, linkSlot, Chain, nodesOf, Encodes}
-use Rattle.session.proofs.TableLaws.{length-table, length-table-append, part-table, table-part, table-joined, table-split}
+use Rattle.base.proofs.Tables.{length-table, length-table-append, part-table, table-part, table-joined, table-split}
 use Rattle.session.proofs.ChainLaws.{node-positive, node-within, AtNode, at-node, node-link, chain-head, chain-link, chain-built}
 
 -- the four numbers of the header

@@ -21,13 +21,13 @@ use Rattle.run.proofs.Trails.{place-true, place-new, true-grows, variables, res
 use Rattle.run.proofs.Clauses.{clause-exists, literal-within}
 use Rattle.book.proofs.SoundLaws.{literal-parts}
 use Rattle.run.proofs.WatchLists.{Watched, listed-size, listed-sides, listed-once}
-use Rattle.run.proofs.Settling.{Structure, valid-structure}
+use Rattle.run.proofs.Propagation.{Structure, valid-structure}
 use Rattle.run.proofs.Validity.{trail-short}
 use Rattle.session.specs.Layout.{trailAt, levelsAt, headsAt, watchesAt, pointersAt, checksAt, levelNumber, cellAt, nodeOf, encode, levelBefore, heldTrail, heldCells, chainFrom, heldLists, held}
 use Rattle.session.specs.Inner.Encodes.{headSlot, linkSlot, Chain, nodesOf, WatchesHeld, Encodes}
-use Rattle.session.proofs.TableLaws.{part-list}
+use Rattle.base.proofs.Tables.{part-list}
 use Rattle.session.proofs.TrailHeldLaws.{literal-cases, level-number-new, level-number-old}
-use Rattle.session.proofs.ListFactsSettle.{once-short}
+use Rattle.base.proofs.Occurrences.{once-short}
 use Rattle.session.proofs.ChainLaws.{node-positive, node-clause}
 use Rattle.session.proofs.EncodeLaws.{encode-encodes}
 

@@ -26,8 +26,8 @@ use Rattle.book.proofs.SoundLaws.{literal-parts}
 use Rattle.run.proofs.Clauses.{clause-exists}
 use Rattle.session.specs.Layout.{trailAt, levelsAt, levelBefore, heldTrail, held}
 use Rattle.session.specs.Inner.Checks.{Says, AllFalse}
-use Rattle.session.specs.Inner.Examining.{Readable, Examined, trailOf, Before, Implies, TruePlace, ImpliedPlace, ImpliedAt, ImpliedMarkedTo, ImpliedMarked}
-use Rattle.session.proofs.ListFactsS5.{at-members}
+use Rattle.session.specs.Inner.Validating.{Readable, Validated, trailOf, Before, Implies, TruePlace, ImpliedPlace, ImpliedAt, ImpliedMarkedTo, ImpliedMarked}
+use Rattle.base.proofs.Occurrences.{at-members}
 use Rattle.session.proofs.SaysLaws.{says-alike}
 use Rattle.session.proofs.TrailGoodLaws.{held-length}
 
@@ -209,7 +209,7 @@ justified-at formula v numbers (suc n) j i less e =
     (below i n)
 
 -- a reason at place i of the held trail is a clause that implies the place
-module _ (book numbers : List ℕ) (x : Examined book numbers) (i : ℕ) (less : i < getD numbers 0 0) where
+module _ (book numbers : List ℕ) (x : Validated book numbers) (i : ℕ) (less : i < getD numbers 0 0) where
   abbrev v : ℕ
   v = variablesOf book
 
@@ -275,7 +275,7 @@ module _ (book numbers : List ℕ) (x : Examined book numbers) (i : ℕ) (less :
           place-true old (opposite m) (omega arith)
 
 -- with the places of all clauses marked, the trail is justified exactly if its implied literals are marked
-module _ (book numbers marks : List ℕ) (x : Examined book numbers)
+module _ (book numbers marks : List ℕ) (x : Validated book numbers)
     (m : Marking (trailOf (variablesOf book) numbers) book marks (clausesOf book))
   where
     marked-justified : ImpliedMarked (variablesOf book) numbers marks

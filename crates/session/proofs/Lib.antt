@@ -1,8 +1,4 @@
 -- The laws of `session` that proofs cite.
-pub mod TableLaws
-pub mod ForAll
-pub mod ListFactsSettle
-pub mod ListFactsS2
 pub mod ChainLaws
 pub mod EncodeLaws
 pub mod ValidLaws
@@ -12,10 +8,10 @@ pub mod TrailCutLaws
 pub mod TrailGoodLaws
 pub mod HeldLaws
 pub mod ListHeldLaws
-pub mod ExamineLaws
+pub mod PassLaws
 pub mod ScanCodeLaws
 pub mod VisitCodeLaws
-pub mod SettleLaws
+pub mod PropagationLaws
 pub mod MoveLaws
 pub mod OpeningLaws
 pub mod CallLaws
@@ -23,10 +19,9 @@ pub mod CellLaws
 pub mod CopyLaws
 pub mod JustifyLaws
 pub mod LinkLaws
-pub mod ListFactsS5
 pub mod ListsGoodLaws
 pub mod PublicLaws
 pub mod ReadingLaws
-pub mod SettledLaws
+pub mod FixpointLaws
 pub mod Statements
 pub mod ValidateLaws

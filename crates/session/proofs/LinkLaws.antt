@@ -23,7 +23,7 @@ use Rattle.session.specs.Inner.Checks.{Says}
 use Rattle.session.specs.Inner.Links.{ownerIn, Looking, ListGood, Marks, ListMarked, ListSays, Met, AllSays, NodeGood, NodesGood}
 use Rattle.session.proofs.CellLaws.{held-cell, clauses-count, size-read}
 use Rattle.session.proofs.SaysLaws.{says-true, says-false, says-equal}
-use Rattle.session.proofs.ListFactsS2.{times-append}
+use Rattle.base.proofs.Occurrences.{times-append}
 
 -- what every function that looks at the lists needs of the book and the session
 pub record Room (book numbers : List ℕ) (variables clauses : ℕ) : Type 0 where

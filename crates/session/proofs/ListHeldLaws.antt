@@ -24,7 +24,7 @@ use Rattle.session.specs.Inner.Encodes.{headSlot, linkSlot, Chain, nodes
 use Rattle.session.specs.Inner.Stores.{pushNums, unlinkNums, SameBeside}
 use Rattle.session.specs.Inner.Engine.{endSlot}
 use Rattle.session.proofs.ChainLaws.{node-literal}
-use Rattle.session.proofs.ListFactsS2.{map-alike, times-more, times-append, keep-others}
+use Rattle.base.proofs.Occurrences.{map-alike, times-more, times-append, keep-others}
 
 -- clause d has the nodes 2 × d + 1 and 2 × d + 2
 abbrev Nodes : (ℕ → ℕ) → Type 0

@@ -27,11 +27,11 @@ use Rattle.session.specs.Inner.Checks.{Says, CellsGood, ListsGood}
 use Rattle.session.specs.Inner.Links.{ownerIn, Looking, ListGood, Met, AllSays, NodesGood}
 use Rattle.session.proofs.CellLaws.{held-cell, held-cells-length, clauses-count}
 use Rattle.session.proofs.ChainLaws.{node-cases, node-clause, node-positive, node-within, AtNode, at-node, node-literal}
-use Rattle.session.proofs.ForAll.{member-times}
+use Rattle.base.proofs.ForAll.{member-times}
 use Rattle.session.proofs.HeldLaws.{length-lists, getD-lists, chain-held}
 use Rattle.session.proofs.SaysLaws.{says-false, says-alike}
 use Rattle.session.proofs.ListHeldLaws.{watched-once}
-use Rattle.session.proofs.ListFactsS2.{times-more, map-back, times-map-least, times-map-is, times-map-in, once-distinct}
+use Rattle.base.proofs.Occurrences.{times-more, map-back, times-map-least, times-map-is, times-map-in, once-distinct}
 
 -- the clause of a node
 abbrev half : ℕ → ℕ

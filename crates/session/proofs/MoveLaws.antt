@@ -16,7 +16,7 @@ use Rattle.run.specs.Calls.{decideRefusal, backtrackRefusal, maxBacktracks}
 use Rattle.run.proofs.Trails.{untrue-place, decided-count}
 use Rattle.book.proofs.SoundLaws.{literal-parts}
 use Rattle.run.proofs.WatchLists.{Watched}
-use Rattle.run.proofs.Settling.{Going, valid-structure}
+use Rattle.run.proofs.Propagation.{Going, valid-structure}
 use Rattle.run.proofs.Validity.{Accepted, decision-accepted, decision-going, backtrack-accepted, trail-short}
 use Rattle.session.specs.Layout.{trailAt, levelsAt, valuesAt, checksAt, requiredLength}
 use Rattle.session.specs.Inner.Encodes.{TrailHeld, WatchesHeld, Encodes}
@@ -113,7 +113,7 @@ module _ {formula : Formula} {numbers : List ℕ} {run : Run} (value : ℕ) (w :
         checks = checks-stored 3 (omega arith);
       }
 
--- The numbers when an accepted decision joined the trail: settling goes on from there.
+-- The numbers when an accepted decision joined the trail: propagation goes on from there.
 module _ {book numbers : List ℕ} (at : Holding book numbers) (l : ℕ) (accepted : decideRefusal (formulaOf book) l (at .run) ≡ 0) where
   abbrev entry : Entry
   entry = record { literal = l; decided = true }

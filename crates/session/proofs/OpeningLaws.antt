@@ -22,16 +22,16 @@ use Rattle.run.specs.Trail.{place, literalAt, isTrue, isFalse, decisions, level
 use Rattle.run.specs.Run.{Run, clauseOf, size, noCell, listOf, pushFront, onTrail, withConflict, inConflict, firstCell, watchAll, fresh, assignUnit, assignUnits, propagate, openRun}
 use Rattle.run.proofs.Clauses.{literal-within}
 use Rattle.run.proofs.Opening.{Opened, fresh-opened, unit-outcome, opening-state}
-use Rattle.run.proofs.Settling.{quiet-out}
+use Rattle.run.proofs.Propagation.{quiet-out}
 use Rattle.session.specs.Layout.{trailAt, levelsAt, valuesAt, headsAt, watchesAt, pointersAt, checksAt, requiredLength, cellAt, valueNumber, levelNumber}
 use Rattle.session.specs.Inner.Encodes.{headSlot, linkSlot, WatchesHeld, Encodes}
 use Rattle.session.specs.Inner.Stores.{valueRead, assignNums, pushNums, SameBeside}
 use Rattle.session.specs.declared.trail.Value.{Value}
 use Rattle.session.specs.Inner.Engine.{Propagating, Becomes}
-use Rattle.session.specs.Inner.Opens.{Cleared, firstWatches, watchNums, Units, UnitDone}
+use Rattle.session.specs.Inner.Opens.{Cleared, firstWatches, freshNums, Units, UnitDone}
 use Rattle.session.proofs.TrailHeldLaws.{held-reads, assign-beside}
 use Rattle.session.proofs.ScanCodeLaws.{ValueSays, reads-says}
-use Rattle.session.proofs.SettleLaws.{becomes-after}
+use Rattle.session.proofs.PropagationLaws.{becomes-after}
 use Rattle.session.proofs.VisitCodeLaws.{trail-room, encodes-implied}
 use Rattle.session.proofs.MoveLaws.{beside-behind, encodes-conflict}
 use Rattle.session.proofs.ListHeldLaws.{held-none, held-same-cells, held-fresh, fresh-within}
@@ -165,8 +165,8 @@ watch-step clauses c lists whole h e = rw (drop-cons clauses c [] h) at e
 pub first-stores : (numbers : List ℕ) {one two : List ℕ} (variables clauses v n c a b : ℕ) (clause : List ℕ) → variables ≡ v → clauses ≡ n
     → a ≡ getD clause 0 0 → b ≡ getD clause 1 0 → 2 ≤ length clause
     → one ≡ pushNums variables clauses (set (set numbers (watchesAt variables + 2 * c + 1) 1) (pointersAt variables clauses + c) 1) a (2 * c + 1)
-    → two ≡ pushNums variables clauses one b (2 * c + 2) → two ≡ watchNums v n clause c numbers
-unfolding watchNums
+    → two ≡ pushNums variables clauses one b (2 * c + 2) → two ≡ freshNums v n clause c numbers
+unfolding freshNums
 first-stores numbers variables clauses v n c a b clause v-is n-is a-is b-is h one-is two-is =
     rw (le-leb 2 (length clause) h, two-is, one-is, v-is, n-is, a-is, b-is)
 
@@ -201,12 +201,12 @@ module _ (book before : List ℕ) (well : wellFormed book ≡ true) (long : requ
       }
 
   pub watches-next : {numbers after : List ℕ} (c : ℕ) → c < clausesOf book
-      → after ≡ watchNums (variablesOf book) (clausesOf book) (clauseAt book c) c numbers → FirstWatches book before numbers c
+      → after ≡ freshNums (variablesOf book) (clausesOf book) (clauseAt book c) c numbers → FirstWatches book before numbers c
       → FirstWatches book before after (c + 1)
-  unfolding watchNums
+  unfolding freshNums
   watches-next {numbers} {after} c h after-is k =
       subst (FirstWatches book before after) (sym (add-one c))
-      (rw (after-is ∙ ap₂ (λ (n : ℕ) (clause : List ℕ). watchNums (variablesOf book) n clause c numbers)
+      (rw (after-is ∙ ap₂ (λ (n : ℕ) (clause : List ℕ). freshNums (variablesOf book) n clause c numbers)
       (sym (length-clauses book 0 (clausesOf book))) (sym (clause-of-formula book c h)))
       (go (leb 2 (size formula c)) refl (watch-step (formula .clauses) c (k .lists) whole inside (k .rest))))
     where

@@ -20,13 +20,13 @@ use Rattle.run.specs.Trail.{Entry, opposite, literalAt, isTrue, isFalse, isAssi
 use Rattle.run.specs.Run.{Run, inConflict, openRun, decide, backtrack}
 use Rattle.run.specs.Calls.{Call, decideRefusal, backtrackRefusal, maxBacktracks, reference}
 use Rattle.run.specs.Valid.{Valid}
-use Rattle.run.proofs.Settling.{valid-structure}
+use Rattle.run.proofs.Propagation.{valid-structure}
 use Rattle.run.proofs.Validity.{trail-short}
 use Rattle.run.proofs.Theorems.{open-valid, decide-valid, backtrack-valid, decide-extends, reference-valid}
 use Rattle.session.specs.Layout.{required, requiredLength, valuesAt, checksAt, encode, held}
-use Rattle.session.specs.Examination.{passes}
+use Rattle.session.specs.Validation.{passes}
 use Rattle.session.specs.Outcomes
-use Rattle.session.specs.Outcomes.{after, settledAnswer, requiredAnswer, openRefusal, openAnswer, openNumbers, callRefusal, decisionRefusal, decideAnswer, decideNumbers, takeBackRefusal, backtrackAnswer, backtrackNumbers, lookupRefusal, lookupAnswer, assignedIn, readRefusal, figuresAnswer, figuresOf, totalAnswer, copied, copyAnswer, copyNumbers, trailBehind, checksOfRun, replayAnswer, replayNumbers, playedNumbers}
+use Rattle.session.specs.Outcomes.{after, propagatedAnswer, requiredAnswer, openRefusal, openAnswer, openNumbers, callRefusal, decisionRefusal, decideAnswer, decideNumbers, sessionBacktrackRefusal, backtrackAnswer, backtrackNumbers, lookupRefusal, lookupAnswer, assignedIn, readRefusal, figuresAnswer, figuresOf, totalAnswer, copied, copyAnswer, copyNumbers, trailBehind, checksOfRun, replayAnswer, replayNumbers, playedNumbers}
 use Rattle.session.specs.Inner.Encodes.{TrailHeld, Encodes}
 use Rattle.session.specs.Inner.Stores.{valueRead, valueIn, Reads}
 use Rattle.session.specs.Inner.Engine.{SameBehind, Becomes, Holding}
@@ -43,9 +43,9 @@ use Rattle.session.specs.declared.Sum.the-variants as total
 use Rattle.session.specs.declared.trail.Value.{Value}
 use Rattle.session.specs.declared.trail.Value.the-variants as value
 use Rattle.session.proofs.EncodeLaws.{encodes-encode, encode-encodes}
-use Rattle.session.proofs.TableLaws.{getD-table, length-table}
+use Rattle.base.proofs.Tables.{getD-table, length-table}
 use Rattle.session.proofs.CallLaws.{open-accepted, replayed}
-use Rattle.session.proofs.ExamineLaws.{passes-iff}
+use Rattle.session.proofs.PassLaws.{passes-iff}
 use Rattle.session.proofs.TrailHeldLaws.{held-reads}
 
 -- the length of a session, from the book
@@ -53,8 +53,8 @@ pub needed-is : (book : List ℕ) → required (variablesOf book) (clausesOf boo
 needed-is book = ap (required (variablesOf book)) (sym (length-clauses book 0 (clausesOf book)))
 
 -- the header answers for the run that the numbers hold
-pub head-answer : (formula : Formula) (numbers : List ℕ) (run : Run) (before : ℕ) → Encodes formula numbers run → headAnswer numbers before ≡ settledAnswer before run
-unfolding settledAnswer
+pub head-answer : (formula : Formula) (numbers : List ℕ) (run : Run) (before : ℕ) → Encodes formula numbers run → headAnswer numbers before ≡ propagatedAnswer before run
+unfolding propagatedAnswer
 head-answer formula numbers run before e = rw (e .trail .count, e .conflict) (go (eqb (run .conflict) 0))
   where
     go : (b : Bool) → cond b (answer.Implied (length (run .trail) - before)) (answer.Conflict (run .conflict)) ≡ cond (not b) (answer.Conflict (run .conflict)) (answer.Implied (length (run .trail) - before))
@@ -69,12 +69,12 @@ becomes-after book before now run well valid b =
     sym (take-append-drop (requiredLength (formulaOf book)) now)
     ∙ ap₂ (λ (x y : List ℕ). x ++ y) (encodes-encode (formulaOf book) (well-formed-sound book well) run valid now (b .encodes)) (b .same-behind)
 
-after-is : (book lent : List ℕ) (calls : List Call) → openRefusal book (length lent) ≡ 0
-    → replayNumbers book calls lent ≡ encode (formulaOf book) (reference (formulaOf book) calls) ++ drop (requiredLength (formulaOf book)) lent
+after-is : (book buffer : List ℕ) (calls : List Call) → openRefusal book (length buffer) ≡ 0
+    → replayNumbers book calls buffer ≡ encode (formulaOf book) (reference (formulaOf book) calls) ++ drop (requiredLength (formulaOf book)) buffer
 unfolding after
-after-is book lent calls e = replayed book lent calls e
+after-is book buffer calls e = replayed book buffer calls e
 
-module _ (book lent : List ℕ) where
+module _ (book buffer : List ℕ) where
   pub required-eleven : wellFormed book ≡ false → count.Refused 11 ≡ requiredAnswer book
   unfolding requiredAnswer
   required-eleven e = rw e
@@ -95,39 +95,39 @@ module _ (book lent : List ℕ) where
   unfolding openRefusal
   open-none room e h = rw (e, le-ltb room (requiredLength (formulaOf book)) h)
 
-  pub open-refused : (n : ℕ) → n ≡ openRefusal book (length lent) → (n ≡ 0 → ⊥) → (answer.Refused n ≡ openAnswer book (length lent)) × (lent ≡ openNumbers book lent)
+  pub open-refused : (n : ℕ) → n ≡ openRefusal book (length buffer) → (n ≡ 0 → ⊥) → (answer.Refused n ≡ openAnswer book (length buffer)) × (buffer ≡ openNumbers book buffer)
   unfolding openAnswer openNumbers
   open-refused n e h = (rw (← e, ne-eqb n 0 h), rw (← e, ne-eqb n 0 h))
 
-  pub open-done : (now : List ℕ) → 0 ≡ openRefusal book (length lent) → Becomes book lent now (openRun (formulaOf book))
-      → (headAnswer now 0 ≡ openAnswer book (length lent)) × (now ≡ openNumbers book lent)
+  pub open-done : (now : List ℕ) → 0 ≡ openRefusal book (length buffer) → Becomes book buffer now (openRun (formulaOf book))
+      → (headAnswer now 0 ≡ openAnswer book (length buffer)) × (now ≡ openNumbers book buffer)
   unfolding openAnswer openNumbers
   open-done now e b =
-      let well : wellFormed book ≡ true = open-accepted book (length lent) (sym e) .0 in (
+      let well : wellFormed book ≡ true = open-accepted book (length buffer) (sym e) .0 in (
         rw (← e) (head-answer (formulaOf book) now (openRun (formulaOf book)) 0 (b .encodes)),
-        rw (← e) (becomes-after book lent now (openRun (formulaOf book)) well (open-valid (formulaOf book) (well-formed-sound book well)) b),
+        rw (← e) (becomes-after book buffer now (openRun (formulaOf book)) well (open-valid (formulaOf book) (well-formed-sound book well)) b),
       )
 
   -- a refused replay, and an accepted one
-  pub replay-refused : (calls : List Call) (n : ℕ) → n ≡ openRefusal book (length lent) → (n ≡ 0 → ⊥)
-      → (answer.Refused n ≡ replayAnswer book calls (length lent)) × (lent ≡ replayNumbers book calls lent)
+  pub replay-refused : (calls : List Call) (n : ℕ) → n ≡ openRefusal book (length buffer) → (n ≡ 0 → ⊥)
+      → (answer.Refused n ≡ replayAnswer book calls (length buffer)) × (buffer ≡ replayNumbers book calls buffer)
   unfolding replayAnswer replayNumbers
   replay-refused calls n e h = (rw (← e, ne-eqb n 0 h), rw (← e, ne-eqb n 0 h))
 
-  pub replay-numbers : (calls : List Call) (opened now : List ℕ) → 0 ≡ openRefusal book (length lent) → opened ≡ openNumbers book lent
-      → now ≡ playedNumbers book opened calls → now ≡ replayNumbers book calls lent
+  pub replay-numbers : (calls : List Call) (opened now : List ℕ) → 0 ≡ openRefusal book (length buffer) → opened ≡ openNumbers book buffer
+      → now ≡ playedNumbers book opened calls → now ≡ replayNumbers book calls buffer
   unfolding replayNumbers
   replay-numbers calls opened now e o is = is ∙ rw (← e) (ap (λ (n : List ℕ). playedNumbers book n calls) o)
 
-  pub replay-done : (calls : List Call) (now : List ℕ) → 0 ≡ openRefusal book (length lent) → now ≡ replayNumbers book calls lent
-      → (headAnswer now 0 ≡ replayAnswer book calls (length lent)) × (4 ≤ length now)
+  pub replay-done : (calls : List Call) (now : List ℕ) → 0 ≡ openRefusal book (length buffer) → now ≡ replayNumbers book calls buffer
+      → (headAnswer now 0 ≡ replayAnswer book calls (length buffer)) × (4 ≤ length now)
   unfolding replayAnswer
   replay-done calls now e is =
-      let well : wellFormed book ≡ true = open-accepted book (length lent) (sym e) .0 in
+      let well : wellFormed book ≡ true = open-accepted book (length buffer) (sym e) .0 in
       let s = well-formed-sound book well in
       let run : Run = reference (formulaOf book) calls in
-      let front : now ≡ encode (formulaOf book) run ++ drop (requiredLength (formulaOf book)) lent = is ∙ after-is book lent calls (sym e) in
-      let e′ : Encodes (formulaOf book) now run = rw front (encode-encodes (formulaOf book) s run (reference-valid (formulaOf book) s calls) (drop (requiredLength (formulaOf book)) lent)) in
+      let front : now ≡ encode (formulaOf book) run ++ drop (requiredLength (formulaOf book)) buffer = is ∙ after-is book buffer calls (sym e) in
+      let e′ : Encodes (formulaOf book) now run = rw front (encode-encodes (formulaOf book) s run (reference-valid (formulaOf book) s calls) (drop (requiredLength (formulaOf book)) buffer)) in
       (rw (← e) (head-answer (formulaOf book) now run 0 e′), omega (arith, e′ .long))
 
 take-drop : (a n : ℕ) (xs : List ℕ) → a ≤ n → take (n - a) (drop a xs) ≡ drop a (take n xs)
@@ -168,8 +168,8 @@ module _ (book session : List ℕ) where
   unfolding decisionRefusal
   decision-first l = refused-first (decideRefusal (formulaOf book) l)
 
-  pub back-refused-first : (k n : ℕ) → n ≡ readRefusal book session → (n ≡ 0 → ⊥) → n ≡ takeBackRefusal book session k
-  unfolding takeBackRefusal
+  pub back-refused-first : (k n : ℕ) → n ≡ readRefusal book session → (n ≡ 0 → ⊥) → n ≡ sessionBacktrackRefusal book session k
+  unfolding sessionBacktrackRefusal
   back-refused-first k = refused-first (backtrackRefusal k)
 
   passed : 0 ≡ readRefusal book session → (wellFormed book ≡ true) × (passes (formulaOf book) session ≡ true)
@@ -347,27 +347,27 @@ module _ (book session : List ℕ) where
             go false false p q z = absurd (n z)
 
     -- a backtrack, refusal by refusal
-    pub back-none : (k : ℕ) → k ≡ 0 → 16 ≡ takeBackRefusal book session k
-    unfolding takeBackRefusal backtrackRefusal
+    pub back-none : (k : ℕ) → k ≡ 0 → 16 ≡ sessionBacktrackRefusal book session k
+    unfolding sessionBacktrackRefusal backtrackRefusal
     back-none k z = sym (own-refusal (backtrackRefusal k) ∙ rw (lt-leb 1 k (omega arith)))
 
-    pub back-over : (k : ℕ) → getD session 1 0 < k → 16 ≡ takeBackRefusal book session k
-    unfolding takeBackRefusal backtrackRefusal
+    pub back-over : (k : ℕ) → getD session 1 0 < k → 16 ≡ sessionBacktrackRefusal book session k
+    unfolding sessionBacktrackRefusal backtrackRefusal
     back-over k h =
         sym (own-refusal (backtrackRefusal k)
         ∙ rw (lt-leb k (length (decisions (held (formulaOf book) session .trail))) (omega (arith, decisions-are)), and-false (leb 1 k)))
 
     module _ (k : ℕ) (some : k ≡ 0 → ⊥) (in-force : k ≤ getD session 1 0) where
-      back-by : (b : Bool) → leb maxBacktracks (held (formulaOf book) session .backtracks) ≡ b → takeBackRefusal book session k ≡ cond b 17 0
-      unfolding takeBackRefusal backtrackRefusal
+      back-by : (b : Bool) → leb maxBacktracks (held (formulaOf book) session .backtracks) ≡ b → sessionBacktrackRefusal book session k ≡ cond b 17 0
+      unfolding sessionBacktrackRefusal backtrackRefusal
       back-by b e =
           own-refusal (backtrackRefusal k)
           ∙ rw (le-leb 1 k (omega (arith, some)), le-leb k (length (decisions (held (formulaOf book) session .trail))) (omega (arith, decisions-are)), e)
 
-      pub back-spent : 1000000 ≤ getD session 3 0 → 17 ≡ takeBackRefusal book session k
+      pub back-spent : 1000000 ≤ getD session 3 0 → 17 ≡ sessionBacktrackRefusal book session k
       back-spent h = sym (back-by true (le-leb maxBacktracks (held (formulaOf book) session .backtracks) (omega (arith, backtracks-are))))
 
-      pub back-accepted : getD session 3 0 < 1000000 → 0 ≡ takeBackRefusal book session k
+      pub back-accepted : getD session 3 0 < 1000000 → 0 ≡ sessionBacktrackRefusal book session k
       back-accepted h = sym (back-by false (lt-leb maxBacktracks (held (formulaOf book) session .backtracks) (omega (arith, backtracks-are))))
 
     -- a lookup
@@ -402,7 +402,7 @@ module _ (book session : List ℕ) where
   unfolding decideAnswer decideNumbers
   decide-refused l n e h = (rw (← e, ne-eqb n 0 h), rw (← e, ne-eqb n 0 h))
 
-  pub back-refused : (k n : ℕ) → n ≡ takeBackRefusal book session k → (n ≡ 0 → ⊥) → (back.Refused n ≡ backtrackAnswer book session k) × (session ≡ backtrackNumbers book session k)
+  pub back-refused : (k n : ℕ) → n ≡ sessionBacktrackRefusal book session k → (n ≡ 0 → ⊥) → (back.Refused n ≡ backtrackAnswer book session k) × (session ≡ backtrackNumbers book session k)
   unfolding backtrackAnswer backtrackNumbers
   back-refused k n e h = (rw (← e, ne-eqb n 0 h), rw (← e, ne-eqb n 0 h))
 
@@ -472,13 +472,13 @@ module _ (book session : List ℕ) where
     pub decide-long : requiredLength (formulaOf book) ≤ length session
     decide-long = long decide-none
 
-  module _ (k : ℕ) (accepted : 0 ≡ takeBackRefusal book session k) where
+  module _ (k : ℕ) (accepted : 0 ≡ sessionBacktrackRefusal book session k) where
     pub back-first : 0 ≡ readRefusal book session
-    unfolding takeBackRefusal
+    unfolding sessionBacktrackRefusal
     back-first = none-first (backtrackRefusal k) accepted
 
     pub back-own : backtrackRefusal k (held (formulaOf book) session) ≡ 0
-    unfolding takeBackRefusal
+    unfolding sessionBacktrackRefusal
     back-own = sym (accepted ∙ own-refusal back-first (backtrackRefusal k))
 
     abbrev pub back-holding : Holding book session

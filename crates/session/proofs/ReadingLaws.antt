@@ -18,7 +18,7 @@ use Rattle.run.proofs.Trails.{variables, opposite-cases, CountCase, decided-cou
 use Rattle.book.proofs.SoundLaws.{literal-parts}
 use Rattle.session.specs.Layout.{valuesAt, levelsAt, valueNumber, levelNumber}
 use Rattle.session.specs.Inner.Encodes.{TrailHeld}
-use Rattle.session.specs.Inner.Examining.{Readable, Examined, height}
+use Rattle.session.specs.Inner.Validating.{Readable, Validated, height}
 use Rattle.session.proofs.TrailHeldLaws.{ValueCase, value-cases, at-place}
 
 -- no more decisions than literals
@@ -168,24 +168,24 @@ module _ (trail : List Entry) (once : distinct (variables trail) ≡ true) where
   chosen-on false l h w = height-on trail l h
 
 -- numbers of a well-formed book's length may be read, and the book's clauses are sound
-module _ (book numbers : List ℕ) (x : Examined book numbers) (v : ℕ) (is : v ≡ variablesOf book) where
-  pub examined-readable : Readable v numbers
-  examined-readable =
+module _ (book numbers : List ℕ) (x : Validated book numbers) (v : ℕ) (is : v ≡ variablesOf book) where
+  pub validated-readable : Readable v numbers
+  validated-readable =
       let limited = well-formed-limited book (x .well) in
       let long = x .long in
       record { few = omega arith; long = omega arith; good = rw is (x .good) }
 
-  pub examined-clause : (c s e : ℕ) → c < clausesOf book → s ≡ clauseStart book c → e ≡ clauseStart book (c + 1)
+  pub validated-clause : (c s e : ℕ) → c < clausesOf book → s ≡ clauseStart book c → e ≡ clauseStart book (c + 1)
       → soundClause v (part s e book) ≡ true
-  examined-clause c s e less begin end =
+  validated-clause c s e less begin end =
       rw (is, clause-between book c s e begin end) (well-formed-clause book (x .well) c less)
 
-pub examined-inside : (book numbers : List ℕ) → Examined book numbers → (c s e : ℕ) → c < clausesOf book → s ≡ clauseStart book c
+pub validated-inside : (book numbers : List ℕ) → Validated book numbers → (c s e : ℕ) → c < clausesOf book → s ≡ clauseStart book c
     → e ≡ clauseStart book (c + 1) → (s ≤ e) × (e ≤ length book)
-examined-inside book numbers x c s e less begin end = clause-inside book (well-formed-parted book (x .well)) c s e less begin end
+validated-inside book numbers x c s e less begin end = clause-inside book (well-formed-parted book (x .well)) c s e less begin end
 
-pub examined-long : (book numbers : List ℕ) → Examined book numbers
+pub validated-long : (book numbers : List ℕ) → Validated book numbers
     → (variablesOf book ≤ 500) × (clausesOf book ≤ 1500) × (4 + 5 * variablesOf book + 6 * clausesOf book ≤ length numbers)
-examined-long book numbers x =
+validated-long book numbers x =
     let limited = well-formed-limited book (x .well) in
     (limited .variables, limited .clauses, rw (length-clauses book 0 (clausesOf book)) at (x .long))

@@ -1,4 +1,4 @@
--- The test of the examination holds exactly of valid runs, condition by condition.
+-- The test of the validation holds exactly of valid runs, condition by condition.
 use Prim.Native.Nat.{ℕ, zero, suc, _+_, _*_, _≤_, _<_}
 use native.Mathlib.Omega.{arith}
 use mathlib.Core.Bool.{Bool, true, cond, not, _&&_, _||_}
@@ -17,12 +17,12 @@ use Rattle.run.specs.Trail.{Entry, opposite, place, isTrue, isFalse, decisions,
 use Rattle.run.specs.Scan.{Cell}
 use Rattle.run.specs.Run.{Run, clauseOf, size, noCell, cellOf, listOf, maxCount}
 use Rattle.run.specs.Calls.{maxBacktracks}
-use Rattle.run.specs.Valid.{Reason, Justified, Watching, firstWatch, secondWatch, standing, Guarded, WatchesHold, Settled, Valid}
+use Rattle.run.specs.Valid.{Reason, Justified, Watching, firstWatch, secondWatch, standing, Guarded, WatchesHold, Fixpoint, Valid}
 use Rattle.run.proofs.Trails.{true-place, place-true, place-new, place-cases, true-grows}
 use Rattle.run.proofs.Clauses.{clause-exists, literal-within}
 use Rattle.book.proofs.SoundLaws.{literal-parts}
-use Rattle.session.specs.Examination.{hasReason, isJustified, isWatching, isGuarded, watchesHold, isSettled, isConflict, isListed, isValid}
-use Rattle.session.proofs.ForAll.{left-or, right-or, upto-at, upto-all, all-places, all-member, all-members, any-place, any-at, member-times, times-member}
+use Rattle.session.specs.Validation.{hasReason, isJustified, isWatching, isGuarded, watchesHold, isFixpoint, isConflict, isListed, isValid}
+use Rattle.base.proofs.ForAll.{left-or, right-or, upto-at, upto-all, all-places, all-member, all-members, any-place, any-at, member-times, times-member}
 
 -- every literal of the trail is one of the formula's
 within-said : (v : ℕ) (trail : List Entry) → all (λ (e : Entry). literalWithin v (e .literal)) trail ≡ true → (l : ℕ) → isTrue trail l ≡ true
@@ -148,7 +148,7 @@ pub unwatched-tests : (n : ℕ) → n < 2 → isWatching n noCell ≡ true
 unfolding isWatching
 unwatched-tests n few = rw (lt-leb 2 n few)
 
--- settled
+-- the fixpoint
 module _ (trail : List Entry) (a b : ℕ) where
   guarded-said : (x y : ℕ) → isGuarded trail x y ≡ true → Guarded trail x y
   unfolding isGuarded
@@ -188,20 +188,20 @@ module _ (formula : Formula) (run : Run) (trail : List Entry) where
   abbrev holdAt : ℕ → Bool
   holdAt c = watchesHold trail (firstWatch formula run c) (secondWatch formula run c)
 
-  abbrev settledAt : ℕ → Bool
-  settledAt c = cond (eqb (size formula c) 1) (unitTrue c) (cond (leb 2 (size formula c)) (holdAt c) true)
+  abbrev fixpointAt : ℕ → Bool
+  fixpointAt c = cond (eqb (size formula c) 1) (unitTrue c) (cond (leb 2 (size formula c)) (holdAt c) true)
 
-  settled-said : isSettled formula run trail ≡ true → Settled formula run trail
-  unfolding isSettled
-  settled-said e =
+  fixpoint-said : isFixpoint formula run trail ≡ true → Fixpoint formula run trail
+  unfolding isFixpoint
+  fixpoint-said e =
       record {
         units-true = λ c u. and-parts (isTrue trail (unit c)) (eqb (level trail (unit c)) 0) (one-literal c u) .0;
         units-level = λ c u. eqb-true (level trail (unit c)) 0 (and-parts (isTrue trail (unit c)) (eqb (level trail (unit c)) 0) (one-literal c u) .1);
         watches = λ c two. hold-said trail (firstWatch formula run c) (secondWatch formula run c) (more-literals c two);
       }
     where
-      at : (c : ℕ) → 0 < size formula c → settledAt c ≡ true
-      at c h = upto-at (length (formula .clauses)) settledAt e c (clause-exists formula c h)
+      at : (c : ℕ) → 0 < size formula c → fixpointAt c ≡ true
+      at c h = upto-at (length (formula .clauses)) fixpointAt e c (clause-exists formula c h)
 
       one-literal : (c : ℕ) → size formula c ≡ 1 → unitTrue c ≡ true
       one-literal c u = rw (eq-eqb (size formula c) 1 u) at (at c (omega arith))
@@ -209,19 +209,19 @@ module _ (formula : Formula) (run : Run) (trail : List Entry) where
       more-literals : (c : ℕ) → 2 ≤ size formula c → holdAt c ≡ true
       more-literals c two = rw (ne-eqb (size formula c) 1 (λ u. omega arith), le-leb 2 (size formula c) two) at (at c (omega arith))
 
-  settled-tests : Settled formula run trail → isSettled formula run trail ≡ true
-  unfolding isSettled
-  settled-tests s = upto-all (length (formula .clauses)) settledAt (λ c h. ⊎-elim (one-literal c) (λ n. ⊎-elim (more-literals c n) (none c n) (below 1 (size formula c))) (alike (size formula c) 1))
+  fixpoint-tests : Fixpoint formula run trail → isFixpoint formula run trail ≡ true
+  unfolding isFixpoint
+  fixpoint-tests s = upto-all (length (formula .clauses)) fixpointAt (λ c h. ⊎-elim (one-literal c) (λ n. ⊎-elim (more-literals c n) (none c n) (below 1 (size formula c))) (alike (size formula c) 1))
     where
-      one-literal : (c : ℕ) → size formula c ≡ 1 → settledAt c ≡ true
+      one-literal : (c : ℕ) → size formula c ≡ 1 → fixpointAt c ≡ true
       one-literal c u = rw (eq-eqb (size formula c) 1 u) (both (s .units-true c u) (eq-eqb (level trail (unit c)) 0 (s .units-level c u)))
 
-      more-literals : (c : ℕ) → (size formula c ≡ 1 → ⊥) → 2 ≤ size formula c → settledAt c ≡ true
+      more-literals : (c : ℕ) → (size formula c ≡ 1 → ⊥) → 2 ≤ size formula c → fixpointAt c ≡ true
       more-literals c n two =
           rw (ne-eqb (size formula c) 1 n, le-leb 2 (size formula c) two)
           (hold-tests trail (firstWatch formula run c) (secondWatch formula run c) (s .watches c two))
 
-      none : (c : ℕ) → (size formula c ≡ 1 → ⊥) → size formula c ≤ 1 → settledAt c ≡ true
+      none : (c : ℕ) → (size formula c ≡ 1 → ⊥) → size formula c ≤ 1 → fixpointAt c ≡ true
       none c n few = rw (ne-eqb (size formula c) 1 n, lt-leb 2 (size formula c) (omega arith))
 
 -- the lists
@@ -297,10 +297,10 @@ module _ (formula : Formula) (run : Run) where
 
 -- in conflict and out of it
 record Stands (formula : Formula) (run : Run) : Type 0 where
-  pub settled : run .conflict ≡ 0 → Settled formula run (run .trail)
+  pub fixpoint : run .conflict ≡ 0 → Fixpoint formula run (run .trail)
   pub conflict-false : (c : ℕ) → run .conflict ≡ suc c
       → (c < length (formula .clauses)) × ((m : ℕ) → member m (clauseOf formula c) ≡ true → isFalse (run .trail) m ≡ true)
-  pub settled-below : (c : ℕ) → run .conflict ≡ suc c → 0 < length (decisions (run .trail)) → Settled formula run (lowered (run .trail))
+  pub fixpoint-below : (c : ℕ) → run .conflict ≡ suc c → 0 < length (decisions (run .trail)) → Fixpoint formula run (lowered (run .trail))
 
 module _ (formula : Formula) (run : Run) where
   abbrev undecided : Bool
@@ -310,32 +310,32 @@ module _ (formula : Formula) (run : Run) where
   unfolding isConflict
   conflict-said zero q e =
       record {
-        settled = λ z. settled-said formula run (run .trail) e;
+        fixpoint = λ z. fixpoint-said formula run (run .trail) e;
         conflict-false = λ c z. absurd (omega arith);
-        settled-below = λ c z. absurd (omega arith);
+        fixpoint-below = λ c z. absurd (omega arith);
       }
   conflict-said (suc d) q e =
-      let a = and-parts (ltb d (length (formula .clauses)) && all (isFalse (run .trail)) (clauseOf formula d)) (undecided || isSettled formula run (lowered (run .trail))) e in
+      let a = and-parts (ltb d (length (formula .clauses)) && all (isFalse (run .trail)) (clauseOf formula d)) (undecided || isFixpoint formula run (lowered (run .trail))) e in
       let b = and-parts (ltb d (length (formula .clauses))) (all (isFalse (run .trail)) (clauseOf formula d)) (a .0) in
       record {
-        settled = λ z. absurd (omega arith);
+        fixpoint = λ z. absurd (omega arith);
         conflict-false = λ c z.
             let same : c ≡ d = omega arith in
             rw same (ltb-true d (length (formula .clauses)) (b .0), all-member (isFalse (run .trail)) (clauseOf formula d) (b .1));
-        settled-below = λ c z some.
+        fixpoint-below = λ c z some.
             ⊎-elim (λ u. absurd (let n = eqb-true (length (decisions (run .trail))) 0 u in omega arith))
-            (settled-said formula run (lowered (run .trail)))
-            (either undecided (isSettled formula run (lowered (run .trail))) (a .1));
+            (fixpoint-said formula run (lowered (run .trail)))
+            (either undecided (isFixpoint formula run (lowered (run .trail))) (a .1));
       }
 
   conflict-tests : (name : ℕ) → run .conflict ≡ name → Stands formula run → isConflict formula run name ≡ true
   unfolding isConflict
-  conflict-tests zero q t = settled-tests formula run (run .trail) (t .settled q)
+  conflict-tests zero q t = fixpoint-tests formula run (run .trail) (t .fixpoint q)
   conflict-tests (suc d) q t =
       let f = t .conflict-false d q in
       both (both (lt-ltb d (length (formula .clauses)) (f .0)) (all-members (isFalse (run .trail)) (clauseOf formula d) (f .1)))
-      (⊎-elim (λ u. left-or (isSettled formula run (lowered (run .trail))) (eq-eqb (length (decisions (run .trail))) 0 u))
-      (λ n. right-or undecided (settled-tests formula run (lowered (run .trail)) (t .settled-below d q (omega arith))))
+      (⊎-elim (λ u. left-or (isFixpoint formula run (lowered (run .trail))) (eq-eqb (length (decisions (run .trail))) 0 u))
+      (λ n. right-or undecided (fixpoint-tests formula run (lowered (run .trail)) (t .fixpoint-below d q (omega arith))))
       (alike (length (decisions (run .trail))) 0))
 
 -- The eleven tests in a row.
@@ -416,9 +416,9 @@ module _ (formula : Formula) (run : Run) where
         watching = watches .0;
         unwatched = watches .1;
         listed = listed-said formula run s lists-long (watches .0) (j .1);
-        settled = state .settled;
+        fixpoint = state .fixpoint;
         conflict-false = state .conflict-false;
-        settled-below = state .settled-below;
+        fixpoint-below = state .fixpoint-below;
       }
 
   valid-tests : Valid formula run → isValid formula run ≡ true
@@ -447,7 +447,7 @@ module _ (formula : Formula) (run : Run) where
       (λ two. watching-tests (size formula c) (cellOf run c) two (v .watching c two)) (below (size formula c) 2))))
       (listed-tests formula run (v .listed)))
       (conflict-tests formula run (run .conflict) refl
-      (record { settled = v .settled; conflict-false = v .conflict-false; settled-below = v .settled-below }))
+      (record { fixpoint = v .fixpoint; conflict-false = v .conflict-false; fixpoint-below = v .fixpoint-below }))
 
 pub valid-test : (formula : Formula) (run : Run) → sound formula ≡ true → (isValid formula run ≡ true) ↔ Valid formula run
 valid-test formula run s = (valid-said formula run s, valid-tests formula run)

@@ -1,4 +1,4 @@
--- The examination, part by part: its conditions together are those of a session that passes.
+-- The validation, part by part: its conditions together are those of a session that passes.
 use Prim.Native.Nat.{ℕ, suc, _+_, _*_, _-_, _≤_, _<_}
 use native.Mathlib.Omega.{arith}
 use mathlib.Core.Bool.{true, false}
@@ -14,15 +14,15 @@ use Rattle.book.proofs.WellFormedLaws.{well-formed-sound}
 use Rattle.run.specs.Run.{maxCount}
 use Rattle.run.specs.Calls.{maxBacktracks}
 use Rattle.run.specs.Valid.{Justified, Valid}
-use Rattle.run.proofs.Settling.{valid-structure}
+use Rattle.run.proofs.Propagation.{valid-structure}
 use Rattle.run.proofs.Validity.{trail-short}
 use Rattle.session.specs.Layout.{checksAt, requiredLength, held}
-use Rattle.session.specs.Examination.{passes}
+use Rattle.session.specs.Validation.{passes}
 use Rattle.session.specs.Inner.Encodes.{Encodes}
-use Rattle.session.specs.Inner.Checks.{TrailGood, CellsGood, ListsGood, SettledOn, AllFalse}
+use Rattle.session.specs.Inner.Checks.{TrailGood, CellsGood, ListsGood, FixpointOn, AllFalse}
 use Rattle.session.proofs.TrailGoodLaws.{held-length}
 use Rattle.session.proofs.HeldLaws.{length-cells, length-lists}
-use Rattle.session.proofs.ExamineLaws.{passes-iff}
+use Rattle.session.proofs.PassLaws.{passes-iff}
 
 -- the conditions that a session has to meet in conflict and out of it
 pub record Built (book numbers : List ℕ) : Type 0 where
@@ -37,9 +37,9 @@ pub record Built (book numbers : List ℕ) : Type 0 where
 -- all conditions
 pub record Passing (book numbers : List ℕ) : Type 0 where
   pub built : Built book numbers
-  pub quiet : getD numbers 2 0 ≡ 0 → SettledOn (formulaOf book) numbers false
+  pub quiet : getD numbers 2 0 ≡ 0 → FixpointOn (formulaOf book) numbers false
   pub conflict : 0 < getD numbers 2 0 → AllFalse (formulaOf book) numbers (getD numbers 2 0 - 1)
-  pub lower : 0 < getD numbers 2 0 → 0 < getD numbers 1 0 → SettledOn (formulaOf book) numbers true
+  pub lower : 0 < getD numbers 2 0 → 0 < getD numbers 1 0 → FixpointOn (formulaOf book) numbers true
 
 -- what is read of the book, and the conditions at it
 module _ (book numbers : List ℕ) (v : ℕ) (is : v ≡ variablesOf book) where
@@ -119,9 +119,9 @@ module _ (book numbers : List ℕ) (well : wellFormed book ≡ true) where
           watching = p .built .cells .watching;
           unwatched = p .built .cells .unwatched;
           listed = p .built .lists .listed;
-          settled = p .quiet;
+          fixpoint = p .quiet;
           conflict-false = λ c e. (inside c e, rw (before c e) at (p .conflict (omega arith)));
-          settled-below = λ c e some. p .lower (omega arith) (omega (arith, p .built .trail .is-held .decided));
+          fixpoint-below = λ c e some. p .lower (omega arith) (omega (arith, p .built .trail .is-held .decided));
         }
       where
         before : (c : ℕ) → getD numbers 2 0 ≡ suc c → getD numbers 2 0 - 1 ≡ c
@@ -155,9 +155,9 @@ module _ (book numbers : List ℕ) (well : wellFormed book ≡ true) where
               cells = record { watching = v .watching; unwatched = v .unwatched };
               lists = record { is-held = e .watches; listed = v .listed };
             };
-        quiet = v .settled;
+        quiet = v .fixpoint;
         conflict = λ some. v .conflict-false (getD numbers 2 0 - 1) (next some) .1;
-        lower = λ some top. v .settled-below (getD numbers 2 0 - 1) (next some) (omega (arith, e .trail .decided));
+        lower = λ some top. v .fixpoint-below (getD numbers 2 0 - 1) (next some) (omega (arith, e .trail .decided));
       }
     where
       next : 0 < getD numbers 2 0 → getD numbers 2 0 ≡ suc (getD numbers 2 0 - 1)

@@ -25,7 +25,7 @@ use Rattle.book.proofs.SoundLaws.{literal-parts}
 use Rattle.run.proofs.Trails.{variables, untrue-place}
 use Rattle.run.proofs.ScanLaws.{pointer-within, scan-found}
 use Rattle.run.proofs.WatchLists.{Watched, moved-watched}
-use Rattle.run.proofs.Settling.{Trailed}
+use Rattle.run.proofs.Propagation.{Trailed}
 use Rattle.run.proofs.Visits.{Seen, seen, trailed-push}
 use Rattle.run.proofs.Validity.{trail-short}
 use Rattle.session.specs.Layout.{trailAt, levelsAt, valuesAt, headsAt, watchesAt, pointersAt, checksAt, required, nodeOf}

@@ -9,4 +9,4 @@ pub mod TrailChecks
 pub mod Visits
 pub mod Opens
 pub mod Links
-pub mod Examining
+pub mod Validating

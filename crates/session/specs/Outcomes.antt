@@ -9,9 +9,9 @@ use Rattle.book.specs.Formula.{Formula, positive, negative}
 use Rattle.book.specs.Numbers.{wellFormed, formulaOf}
 use Rattle.run.specs.Trail.{Entry, literalAt, isTrue, decisions}
 use Rattle.run.specs.Run.{Run, inConflict, openRun, decide, backtrack}
-use Rattle.run.specs.Calls.{Call, decision, takeBack, decideRefusal, backtrackRefusal, reference}
+use Rattle.run.specs.Calls.{Call, decision, backtrackBy, decideRefusal, backtrackRefusal, reference}
 use Rattle.session.specs.Layout.{requiredLength, encode, held}
-use Rattle.session.specs.Examination.{passes}
+use Rattle.session.specs.Validation.{passes}
 use Rattle.session.specs.declared.Answer.{Answer}
 use Rattle.session.specs.declared.Answer.the-variants as answer
 use Rattle.session.specs.declared.Back.{Back}
@@ -27,11 +27,11 @@ use Rattle.session.specs.declared.Count.the-variants as count
 
 -- the numbers of a run, followed by what lay behind the required length
 unfoldable pub after : Formula → Run → List ℕ → List ℕ
-after formula run lent = encode formula run ++ drop (requiredLength formula) lent
+after formula run buffer = encode formula run ++ drop (requiredLength formula) buffer
 
 -- how many literals came on the trail behind the first so many, or the conflict clause's name
-unfoldable pub settledAnswer : ℕ → Run → Answer
-settledAnswer before run = cond (inConflict run) (answer.Conflict (run .conflict)) (answer.Implied (length (run .trail) - before))
+unfoldable pub propagatedAnswer : ℕ → Run → Answer
+propagatedAnswer before run = cond (inConflict run) (answer.Conflict (run .conflict)) (answer.Implied (length (run .trail) - before))
 
 -- The required length of a session on a book.
 unfoldable pub requiredAnswer : List ℕ → Count
@@ -43,11 +43,11 @@ openRefusal book room = cond (wellFormed book) (cond (ltb room (requiredLength (
 
 unfoldable pub openAnswer : List ℕ → ℕ → Answer
 openAnswer book room =
-    cond (eqb (openRefusal book room) 0) (settledAnswer 0 (openRun (formulaOf book))) (answer.Refused (openRefusal book room))
+    cond (eqb (openRefusal book room) 0) (propagatedAnswer 0 (openRun (formulaOf book))) (answer.Refused (openRefusal book room))
 
 unfoldable pub openNumbers : List ℕ → List ℕ → List ℕ
-openNumbers book lent =
-    cond (eqb (openRefusal book (length lent)) 0) (after (formulaOf book) (openRun (formulaOf book)) lent) lent
+openNumbers book buffer =
+    cond (eqb (openRefusal book (length buffer)) 0) (after (formulaOf book) (openRun (formulaOf book)) buffer) buffer
 
 -- Session calls: 11, then 12, then what the call itself refuses in the run that the session holds.
 unfoldable pub callRefusal : List ℕ → List ℕ → (Run → ℕ) → ℕ
@@ -61,7 +61,7 @@ decisionRefusal book session l = callRefusal book session (decideRefusal (formul
 unfoldable pub decideAnswer : List ℕ → List ℕ → ℕ → Answer
 decideAnswer book session l =
     cond (eqb (decisionRefusal book session l) 0)
-    (settledAnswer (suc (length (held (formulaOf book) session .trail))) (decide (formulaOf book) l (held (formulaOf book) session)))
+    (propagatedAnswer (suc (length (held (formulaOf book) session .trail))) (decide (formulaOf book) l (held (formulaOf book) session)))
     (answer.Refused (decisionRefusal book session l))
 
 unfoldable pub decideNumbers : List ℕ → List ℕ → ℕ → List ℕ
@@ -71,16 +71,16 @@ decideNumbers book session l =
     session
 
 -- Backtrack: 16, 17.
-unfoldable pub takeBackRefusal : List ℕ → List ℕ → ℕ → ℕ
-takeBackRefusal book session k = callRefusal book session (backtrackRefusal k)
+unfoldable pub sessionBacktrackRefusal : List ℕ → List ℕ → ℕ → ℕ
+sessionBacktrackRefusal book session k = callRefusal book session (backtrackRefusal k)
 
 unfoldable pub backtrackAnswer : List ℕ → List ℕ → ℕ → Back
 backtrackAnswer book session k =
-    cond (eqb (takeBackRefusal book session k) 0) back.Done (back.Refused (takeBackRefusal book session k))
+    cond (eqb (sessionBacktrackRefusal book session k) 0) back.Done (back.Refused (sessionBacktrackRefusal book session k))
 
 unfoldable pub backtrackNumbers : List ℕ → List ℕ → ℕ → List ℕ
 backtrackNumbers book session k =
-    cond (eqb (takeBackRefusal book session k) 0) (after (formulaOf book) (backtrack k (held (formulaOf book) session)) session) session
+    cond (eqb (sessionBacktrackRefusal book session k) 0) (after (formulaOf book) (backtrack k (held (formulaOf book) session)) session) session
 
 -- Lookup: 13; it answers in conflict too.
 unfoldable pub lookupRefusal : List ℕ → List ℕ → ℕ → ℕ
@@ -116,7 +116,7 @@ figuresAnswer book session =
 
 -- Copies: what fits is copied, what lies behind stays, and the answer says how many there are.
 unfoldable pub copied : List ℕ → List ℕ → List ℕ
-copied source lent = take (length lent) source ++ drop (length source) lent
+copied source buffer = take (length buffer) source ++ drop (length source) buffer
 
 unfoldable pub copyAnswer : List ℕ → List ℕ → (Run → List ℕ) → Count
 copyAnswer book session part =
@@ -125,8 +125,8 @@ copyAnswer book session part =
     (count.Refused (readRefusal book session))
 
 unfoldable pub copyNumbers : List ℕ → List ℕ → (Run → List ℕ) → List ℕ → List ℕ
-copyNumbers book session part lent =
-    cond (eqb (readRefusal book session) 0) (copied (part (held (formulaOf book) session)) lent) lent
+copyNumbers book session part buffer =
+    cond (eqb (readRefusal book session) 0) (copied (part (held (formulaOf book) session)) buffer) buffer
 
 -- the trail's literals in trail order, behind the first so many
 unfoldable pub trailBehind : ℕ → Run → List ℕ
@@ -139,12 +139,12 @@ checksOfRun run = run .checks
 unfoldable pub callsOf : List ℕ → List Call
 callsOf [] = []
 callsOf (kind ∷ []) = []
-callsOf (kind ∷ number ∷ numbers) = cond (eqb kind 0) (decision number) (takeBack number) ∷ callsOf numbers
+callsOf (kind ∷ number ∷ numbers) = cond (eqb kind 0) (decision number) (backtrackBy number) ∷ callsOf numbers
 
 -- Replay: an opening, and then every call of the list.
 unfoldable pub callNumbers : List ℕ → List ℕ → Call → List ℕ
 callNumbers book session (decision l) = decideNumbers book session l
-callNumbers book session (takeBack k) = backtrackNumbers book session k
+callNumbers book session (backtrackBy k) = backtrackNumbers book session k
 
 unfoldable pub playedNumbers : List ℕ → List ℕ → List Call → List ℕ
 playedNumbers book session [] = session
@@ -153,9 +153,9 @@ playedNumbers book session (call ∷ calls) = playedNumbers book (callNumbers bo
 unfoldable pub replayAnswer : List ℕ → List Call → ℕ → Answer
 replayAnswer book calls room =
     cond (eqb (openRefusal book room) 0)
-    (settledAnswer 0 (reference (formulaOf book) calls))
+    (propagatedAnswer 0 (reference (formulaOf book) calls))
     (answer.Refused (openRefusal book room))
 
 unfoldable pub replayNumbers : List ℕ → List Call → List ℕ → List ℕ
-replayNumbers book calls lent =
-    cond (eqb (openRefusal book (length lent)) 0) (playedNumbers book (openNumbers book lent) calls) lent
+replayNumbers book calls buffer =
+    cond (eqb (openRefusal book (length buffer)) 0) (playedNumbers book (openNumbers book buffer) calls) buffer

@@ -1,20 +1,20 @@
 // The session engine over lent numbers: opening, decision, backtrack, and what a caller reads of a session.
 mod copies;
-mod examine;
-mod examine_lists;
-mod examine_trail;
 mod lists;
 mod moves;
 mod opening;
+mod propagation;
 mod scan;
-mod settle;
 mod trail;
+mod validate_lists;
+mod validate_trail;
+mod validation;
 mod visit;
 
 ghost use mathlib.Core.Path.{_≡_};
 ghost use Prim.Native.Nat.{_-_, _<_, _≤_};
 ghost use lib.ListN.{length, getD};
-ghost use Rattle.session.specs.Outcomes.{requiredAnswer, openRefusal, openAnswer, openNumbers, decideAnswer, decideNumbers, backtrackAnswer, backtrackNumbers, lookupAnswer, readRefusal, decisionRefusal, takeBackRefusal, figuresAnswer, totalAnswer, copyAnswer, copyNumbers, trailBehind, checksOfRun, callsOf, replayAnswer, replayNumbers};
+ghost use Rattle.session.specs.Outcomes.{requiredAnswer, openRefusal, openAnswer, openNumbers, decideAnswer, decideNumbers, backtrackAnswer, backtrackNumbers, lookupAnswer, readRefusal, decisionRefusal, sessionBacktrackRefusal, figuresAnswer, totalAnswer, copyAnswer, copyNumbers, trailBehind, checksOfRun, callsOf, replayAnswer, replayNumbers};
 ghost use Rattle.session.specs.Statement.{Replayed};
 ghost use mathlib.Core.Bool.{true};
 ghost use Rattle.book.specs.Numbers.{wellFormed, formulaOf};
@@ -84,7 +84,7 @@ pub fn required_length(book: &[u32]) -> Count
     Count::Of(needed(book) as u32)
 }
 
-// The answer of a call that settled: from the header.
+// The answer of a call that propagated: from the header.
 fn answered(session: &[u32], before: u32) -> Answer
     requires { ⌜ (4 ≤ length (now session)) × (before ≤ getD (now session) 0 0) ⌝ }
     ensures { λ r. ⌜ r ≡ headAnswer (now (session .entry)) before ⌝ }
@@ -123,13 +123,13 @@ pub fn open(book: &[u32], session: &mut [u32]) -> Answer
 }
 
 // The refusal number 11 or 12 of a session call, or 0.
-fn examined(book: &[u32], session: &[u32]) -> u32
+fn validated(book: &[u32], session: &[u32]) -> u32
     ensures { λ r. ⌜ r ≡ readRefusal (now (book .entry)) (now (session .entry)) ⌝ }
 {
     if !book::well_formed(book) {
         return 11;
     }
-    if !examine::validate(book, session) {
+    if !validation::validate(book, session) {
         return 12;
     }
     0
@@ -139,7 +139,7 @@ fn examined(book: &[u32], session: &[u32]) -> u32
 fn decision_refusal(book: &[u32], session: &[u32], literal: u32) -> u32
     ensures { λ r. ⌜ r ≡ decisionRefusal (now (book .entry)) (now (session .entry)) literal ⌝ }
 {
-    let refused = examined(book, session);
+    let refused = validated(book, session);
     if refused != 0 {
         return refused;
     }
@@ -162,7 +162,7 @@ fn decision_refusal(book: &[u32], session: &[u32], literal: u32) -> u32
     }
 }
 
-// Decides a literal and settles. A refusal changes no number.
+// Decides a literal and propagates. A refusal changes no number.
 pub fn decide(book: &[u32], session: &mut [u32], literal: u32) -> Answer
     ensures { λ r. ⌜ r ≡ decideAnswer (now (book .entry)) (now (session .entry)) literal ⌝ }
     ensures { λ r. ⌜ now (session .exit) ≡ decideNumbers (now (book .entry)) (now (session .entry)) literal ⌝ }
@@ -178,9 +178,9 @@ pub fn decide(book: &[u32], session: &mut [u32], literal: u32) -> Answer
 
 // The refusal number of a backtrack, or 0.
 fn backtrack_refusal(book: &[u32], session: &[u32], k: u32) -> u32
-    ensures { λ r. ⌜ r ≡ takeBackRefusal (now (book .entry)) (now (session .entry)) k ⌝ }
+    ensures { λ r. ⌜ r ≡ sessionBacktrackRefusal (now (book .entry)) (now (session .entry)) k ⌝ }
 {
-    let refused = examined(book, session);
+    let refused = validated(book, session);
     if refused != 0 {
         return refused;
     }
@@ -205,7 +205,7 @@ pub fn backtrack(book: &[u32], session: &mut [u32], k: u32) -> Back
     if refused != 0 {
         return Back::Refused(refused);
     }
-    moves::take_back(book, session, k);
+    moves::backtrack_levels(book, session, k);
     Back::Done
 }
 
@@ -213,7 +213,7 @@ pub fn backtrack(book: &[u32], session: &mut [u32], k: u32) -> Back
 pub fn lookup(book: &[u32], session: &[u32], variable: u32) -> Assigned
     ensures { λ r. ⌜ r ≡ lookupAnswer (now (book .entry)) (now (session .entry)) variable ⌝ }
 {
-    let refused = examined(book, session);
+    let refused = validated(book, session);
     if refused != 0 {
         return Assigned::Refused(refused);
     }
@@ -237,7 +237,7 @@ pub fn lookup(book: &[u32], session: &[u32], variable: u32) -> Assigned
 pub fn figures(book: &[u32], session: &[u32]) -> Shown
     ensures { λ r. ⌜ r ≡ figuresAnswer (now (book .entry)) (now (session .entry)) ⌝ }
 {
-    let refused = examined(book, session);
+    let refused = validated(book, session);
     if refused != 0 {
         return Shown::Refused(refused);
     }
@@ -253,7 +253,7 @@ pub fn figures(book: &[u32], session: &[u32]) -> Shown
 pub fn total(book: &[u32], session: &[u32]) -> Sum
     ensures { λ r. ⌜ r ≡ totalAnswer (now (book .entry)) (now (session .entry)) ⌝ }
 {
-    let refused = examined(book, session);
+    let refused = validated(book, session);
     if refused != 0 {
         return Sum::Refused(refused);
     }
@@ -268,7 +268,7 @@ pub fn checks(book: &[u32], session: &[u32], out: &mut [u32]) -> Count
     ensures { λ r. ⌜ r ≡ copyAnswer (now (book .entry)) (now (session .entry)) checksOfRun ⌝ }
     ensures { λ r. ⌜ now (out .exit) ≡ copyNumbers (now (book .entry)) (now (session .entry)) checksOfRun (now (out .entry)) ⌝ }
 {
-    let refused = examined(book, session);
+    let refused = validated(book, session);
     if refused != 0 {
         return Count::Refused(refused);
     }
@@ -284,7 +284,7 @@ pub fn trail_from(book: &[u32], session: &[u32], before: u32, out: &mut [u32]) -
     ensures { λ r. ⌜ r ≡ copyAnswer (now (book .entry)) (now (session .entry)) (trailBehind before) ⌝ }
     ensures { λ r. ⌜ now (out .exit) ≡ copyNumbers (now (book .entry)) (now (session .entry)) (trailBehind before) (now (out .entry)) ⌝ }
 {
-    let refused = examined(book, session);
+    let refused = validated(book, session);
     if refused != 0 {
         return Count::Refused(refused);
     }

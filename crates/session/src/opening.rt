@@ -1,4 +1,4 @@
-// The opening of a session: the first watches and lists, the clauses of one literal, then settling.
+// The opening of a session: the first watches and lists, the clauses of one literal, then propagation.
 ghost use mathlib.Core.Path.{_≡_};
 ghost use mathlib.Core.Bool.{true};
 ghost use Prim.Native.Nat.{ℕ, _≤_, _<_};
@@ -8,9 +8,9 @@ ghost use Rattle.run.specs.Run as runs;
 ghost use Rattle.session.specs.Layout.{requiredLength};
 ghost use Rattle.session.specs.Inner.Encodes.{Encodes};
 ghost use Rattle.session.specs.Inner.Engine.{Becomes};
-ghost use Rattle.session.specs.Inner.Opens.{Cleared, watchNums, Units, UnitDone};
+ghost use Rattle.session.specs.Inner.Opens.{Cleared, freshNums, Units, UnitDone};
 use crate::lists::push_front;
-use crate::settle::propagate;
+use crate::propagation::propagate;
 use crate::trail::Value;
 use crate::trail::assign;
 use crate::trail::value_of;
@@ -30,7 +30,7 @@ fn clear(session: &mut [u32], count: usize)
 // A clause of two literals or more watches positions 0 and 1, and its pointer is 1.
 fn watch_clause(book: &[u32], session: &mut [u32], c: usize)
     requires { ⌜ (wellFormed (now book) ≡ true) × (requiredLength (formulaOf (now book)) ≤ length (now session)) × (c < clausesOf (now book)) ⌝ }
-    ensures { λ r. ⌜ now (session .exit) ≡ watchNums (variablesOf (now (book .entry))) (clausesOf (now (book .entry))) (clauseAt (now (book .entry)) c) c (now (session .entry)) ⌝ }
+    ensures { λ r. ⌜ now (session .exit) ≡ freshNums (variablesOf (now (book .entry))) (clausesOf (now (book .entry))) (clauseAt (now (book .entry)) c) c (now (session .entry)) ⌝ }
 {
     let variables = book::variables(book);
     let clauses = book::clauses(book);

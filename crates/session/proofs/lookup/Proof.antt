@@ -11,18 +11,18 @@ use Rattle.session.proofs.lookup.Tie as tie
 use Rattle.session.proofs.lookup.Reads as reads
 use Rattle.session.proofs.lookup.Lts as lts
 use Rattle.book.proofs.variables.Reads as variables-reads
-use Rattle.session.proofs.examined.Reads as examined-reads
+use Rattle.session.proofs.validated.Reads as validated-reads
 use Rattle.session.proofs.trail.value_of.Reads as value-of-reads
 use Rattle.session.proofs.trail.wide.Reads as wide-reads
 
-examined-requires : tie.Need-examined-requires
-examined-requires c κs = search needs
+validated-requires : tie.Need-validated-requires
+validated-requires c κs = search needs
 
 returns : tie.Need-returns
-returns c = lookup-refused (c .before .before .before .before .args .book .now) (c .before .before .before .before .args .session .now) _ _ (c .before .examined .ensures) (c .if1 .taken)
+returns c = lookup-refused (c .before .before .before .before .args .book .now) (c .before .before .before .before .args .session .now) _ _ (c .before .validated .ensures) (c .if1 .taken)
 
 returns-2 : tie.Need-returns-2
-returns-2 c = variable-none (c .before .before .before .before .before .args .book .now) (c .before .before .before .before .before .args .session .now) (sym (c .before .if1 .left) ∙ c .before .before .examined .ensures) _ (c .if2 .taken)
+returns-2 c = variable-none (c .before .before .before .before .before .args .book .now) (c .before .before .before .before .before .args .session .now) (sym (c .before .if1 .left) ∙ c .before .before .validated .ensures) _ (c .if2 .taken)
 
 variables-requires : tie.Need-variables-requires
 variables-requires c κs = search needs
@@ -31,22 +31,22 @@ wide-requires : tie.Need-wide-requires
 wide-requires c κs = search needs
 
 returns-3 : tie.Need-returns-3
-returns-3 c = variable-over (c .before .before .before .before .before .before .before .before .args .book .now) (c .before .before .before .before .before .before .before .before .args .session .now) (sym (c .before .before .before .before .if1 .left) ∙ c .before .before .before .before .before .examined .ensures) _ (omega (arith, c .before .wide .ensures, c .before .before .variables .ensures, c .if3 .taken))
+returns-3 c = variable-over (c .before .before .before .before .before .before .before .before .args .book .now) (c .before .before .before .before .before .before .before .before .args .session .now) (sym (c .before .before .before .before .if1 .left) ∙ c .before .before .before .before .before .validated .ensures) _ (omega (arith, c .before .wide .ensures, c .before .before .variables .ensures, c .if3 .taken))
 
 mul-from : tie.Need-mul-from
-mul-from c = omega (arith, c .before .before .variables .ensures, few-variables (c .before .before .before .before .before .before .before .before .args .book .now) (c .before .before .before .before .before .before .before .before .args .session .now) (sym (c .before .before .before .before .if1 .left) ∙ c .before .before .before .before .before .examined .ensures))
+mul-from c = omega (arith, c .before .before .variables .ensures, few-variables (c .before .before .before .before .before .before .before .before .args .book .now) (c .before .before .before .before .before .before .before .before .args .session .now) (sym (c .before .before .before .before .if1 .left) ∙ c .before .before .before .before .before .validated .ensures))
 
 add-from : tie.Need-add-from
-add-from c = omega (arith, c .before .before .variables .ensures, few-variables (c .before .before .before .before .before .before .before .before .args .book .now) (c .before .before .before .before .before .before .before .before .args .session .now) (sym (c .before .before .before .before .if1 .left) ∙ c .before .before .before .before .before .examined .ensures))
+add-from c = omega (arith, c .before .before .variables .ensures, few-variables (c .before .before .before .before .before .before .before .before .args .book .now) (c .before .before .before .before .before .before .before .before .args .session .now) (sym (c .before .before .before .before .if1 .left) ∙ c .before .before .before .before .before .validated .ensures))
 
 mul-to : tie.Need-mul-to
-mul-to c = omega (arith, c .before .before .variables .ensures, few-variables (c .before .before .before .before .before .before .before .before .args .book .now) (c .before .before .before .before .before .before .before .before .args .session .now) (sym (c .before .before .before .before .if1 .left) ∙ c .before .before .before .before .before .examined .ensures))
+mul-to c = omega (arith, c .before .before .variables .ensures, few-variables (c .before .before .before .before .before .before .before .before .args .book .now) (c .before .before .before .before .before .before .before .before .args .session .now) (sym (c .before .before .before .before .if1 .left) ∙ c .before .before .before .before .before .validated .ensures))
 
 add-to : tie.Need-add-to
-add-to c = omega (arith, c .before .before .variables .ensures, few-variables (c .before .before .before .before .before .before .before .before .args .book .now) (c .before .before .before .before .before .before .before .before .args .session .now) (sym (c .before .before .before .before .if1 .left) ∙ c .before .before .before .before .before .examined .ensures))
+add-to c = omega (arith, c .before .before .variables .ensures, few-variables (c .before .before .before .before .before .before .before .before .args .book .now) (c .before .before .before .before .before .before .before .before .args .session .now) (sym (c .before .before .before .before .if1 .left) ∙ c .before .before .before .before .before .validated .ensures))
 
 mul-value-of : tie.Need-mul-value-of
-mul-value-of c = omega (arith, c .before .before .variables .ensures, few-variables (c .before .before .before .before .before .before .before .before .args .book .now) (c .before .before .before .before .before .before .before .before .args .session .now) (sym (c .before .before .before .before .if1 .left) ∙ c .before .before .before .before .before .examined .ensures))
+mul-value-of c = omega (arith, c .before .before .variables .ensures, few-variables (c .before .before .before .before .before .before .before .before .args .book .now) (c .before .before .before .before .before .before .before .before .args .session .now) (sym (c .before .before .before .before .if1 .left) ∙ c .before .before .before .before .before .validated .ensures))
 
 sub-value-of : tie.Need-sub-value-of
 sub-value-of c = search needs
@@ -55,10 +55,10 @@ part-value-of-start : tie.Need-part-value-of-start
 part-value-of-start c = search needs
 
 part-value-of-end : tie.Need-part-value-of-end
-part-value-of-end c = omega (arith, c .before .before .variables .ensures, long (c .before .before .before .before .before .before .before .before .args .book .now) (c .before .before .before .before .before .before .before .before .args .session .now) (sym (c .before .before .before .before .if1 .left) ∙ c .before .before .before .before .before .examined .ensures))
+part-value-of-end c = omega (arith, c .before .before .variables .ensures, long (c .before .before .before .before .before .before .before .before .args .book .now) (c .before .before .before .before .before .before .before .before .args .session .now) (sym (c .before .before .before .before .if1 .left) ∙ c .before .before .before .before .before .validated .ensures))
 
 mul-value-of-2 : tie.Need-mul-value-of-2
-mul-value-of-2 c = omega (arith, c .before .before .before .variables .ensures, few-variables (c .before .before .before .before .before .before .before .before .before .args .book .now) (c .before .before .before .before .before .before .before .before .before .args .session .now) (sym (c .before .before .before .before .before .if1 .left) ∙ c .before .before .before .before .before .before .examined .ensures), c .before .before .wide .ensures, c .before .if3 .left)
+mul-value-of-2 c = omega (arith, c .before .before .before .variables .ensures, few-variables (c .before .before .before .before .before .before .before .before .before .args .book .now) (c .before .before .before .before .before .before .before .before .before .args .session .now) (sym (c .before .before .before .before .before .if1 .left) ∙ c .before .before .before .before .before .before .validated .ensures), c .before .before .wide .ensures, c .before .if3 .left)
 
 value-of-requires : tie.Need-value-of-requires
 value-of-requires c κs = search needs
@@ -73,19 +73,19 @@ enum-told-3 : tie.Need-enum-told-3
 enum-told-3 c = search needs
 
 returns-4 : tie.Need-returns-4
-returns-4 c = ap (shownAs (c .before .before .before .before .before .before .before .before .before .before .before .before .args .book .now) (c .before .before .before .before .before .before .before .before .before .before .before .before .args .session .now) (sym (c .before .before .before .before .before .before .before .before .if1 .left) ∙ c .before .before .before .before .before .before .before .before .before .examined .ensures)) (value-answers (c .before .before .before .before .before .before .before .before .before .before .before .before .args .book .now) (c .before .before .before .before .before .before .before .before .before .before .before .before .args .session .now) (sym (c .before .before .before .before .before .before .before .before .if1 .left) ∙ c .before .before .before .before .before .before .before .before .before .examined .ensures) (c .before .before .before .before .before .before .variables .result) (2 * c .before .before .before .before .before .before .before .before .before .before .before .before .args .variable) _ (c .before .before .before .before .before .before .variables .ensures) (omega (arith, c .before .before .before .before .before .before .before .if2 .left)) (omega (arith, c .before .before .before .before .before .wide .ensures, c .before .before .before .before .if3 .left)) (sym (c .enum-told .given .1) ∙ c .before .before .value-of .ensures)) ∙ variable-is (c .before .before .before .before .before .before .before .before .before .before .before .before .args .book .now) (c .before .before .before .before .before .before .before .before .before .before .before .before .args .session .now) (sym (c .before .before .before .before .before .before .before .before .if1 .left) ∙ c .before .before .before .before .before .before .before .before .before .examined .ensures) (c .before .before .before .before .before .before .before .before .before .before .before .before .args .variable) (c .before .before .before .before .before .before .before .if2 .left) (omega (arith, c .before .before .before .before .before .wide .ensures, c .before .before .before .before .before .before .variables .ensures, c .before .before .before .before .if3 .left))
+returns-4 c = ap (shownAs (c .before .before .before .before .before .before .before .before .before .before .before .before .args .book .now) (c .before .before .before .before .before .before .before .before .before .before .before .before .args .session .now) (sym (c .before .before .before .before .before .before .before .before .if1 .left) ∙ c .before .before .before .before .before .before .before .before .before .validated .ensures)) (value-answers (c .before .before .before .before .before .before .before .before .before .before .before .before .args .book .now) (c .before .before .before .before .before .before .before .before .before .before .before .before .args .session .now) (sym (c .before .before .before .before .before .before .before .before .if1 .left) ∙ c .before .before .before .before .before .before .before .before .before .validated .ensures) (c .before .before .before .before .before .before .variables .result) (2 * c .before .before .before .before .before .before .before .before .before .before .before .before .args .variable) _ (c .before .before .before .before .before .before .variables .ensures) (omega (arith, c .before .before .before .before .before .before .before .if2 .left)) (omega (arith, c .before .before .before .before .before .wide .ensures, c .before .before .before .before .if3 .left)) (sym (c .enum-told .given .1) ∙ c .before .before .value-of .ensures)) ∙ variable-is (c .before .before .before .before .before .before .before .before .before .before .before .before .args .book .now) (c .before .before .before .before .before .before .before .before .before .before .before .before .args .session .now) (sym (c .before .before .before .before .before .before .before .before .if1 .left) ∙ c .before .before .before .before .before .before .before .before .before .validated .ensures) (c .before .before .before .before .before .before .before .before .before .before .before .before .args .variable) (c .before .before .before .before .before .before .before .if2 .left) (omega (arith, c .before .before .before .before .before .wide .ensures, c .before .before .before .before .before .before .variables .ensures, c .before .before .before .before .if3 .left))
 
 returns-5 : tie.Need-returns-5
-returns-5 c = ap (shownAs (c .before .before .before .before .before .before .before .before .before .before .before .before .args .book .now) (c .before .before .before .before .before .before .before .before .before .before .before .before .args .session .now) (sym (c .before .before .before .before .before .before .before .before .if1 .left) ∙ c .before .before .before .before .before .before .before .before .before .examined .ensures)) (value-answers (c .before .before .before .before .before .before .before .before .before .before .before .before .args .book .now) (c .before .before .before .before .before .before .before .before .before .before .before .before .args .session .now) (sym (c .before .before .before .before .before .before .before .before .if1 .left) ∙ c .before .before .before .before .before .before .before .before .before .examined .ensures) (c .before .before .before .before .before .before .variables .result) (2 * c .before .before .before .before .before .before .before .before .before .before .before .before .args .variable) _ (c .before .before .before .before .before .before .variables .ensures) (omega (arith, c .before .before .before .before .before .before .before .if2 .left)) (omega (arith, c .before .before .before .before .before .wide .ensures, c .before .before .before .before .if3 .left)) (sym (c .enum-told2 .given .1) ∙ c .before .before .value-of .ensures)) ∙ variable-is (c .before .before .before .before .before .before .before .before .before .before .before .before .args .book .now) (c .before .before .before .before .before .before .before .before .before .before .before .before .args .session .now) (sym (c .before .before .before .before .before .before .before .before .if1 .left) ∙ c .before .before .before .before .before .before .before .before .before .examined .ensures) (c .before .before .before .before .before .before .before .before .before .before .before .before .args .variable) (c .before .before .before .before .before .before .before .if2 .left) (omega (arith, c .before .before .before .before .before .wide .ensures, c .before .before .before .before .before .before .variables .ensures, c .before .before .before .before .if3 .left))
+returns-5 c = ap (shownAs (c .before .before .before .before .before .before .before .before .before .before .before .before .args .book .now) (c .before .before .before .before .before .before .before .before .before .before .before .before .args .session .now) (sym (c .before .before .before .before .before .before .before .before .if1 .left) ∙ c .before .before .before .before .before .before .before .before .before .validated .ensures)) (value-answers (c .before .before .before .before .before .before .before .before .before .before .before .before .args .book .now) (c .before .before .before .before .before .before .before .before .before .before .before .before .args .session .now) (sym (c .before .before .before .before .before .before .before .before .if1 .left) ∙ c .before .before .before .before .before .before .before .before .before .validated .ensures) (c .before .before .before .before .before .before .variables .result) (2 * c .before .before .before .before .before .before .before .before .before .before .before .before .args .variable) _ (c .before .before .before .before .before .before .variables .ensures) (omega (arith, c .before .before .before .before .before .before .before .if2 .left)) (omega (arith, c .before .before .before .before .before .wide .ensures, c .before .before .before .before .if3 .left)) (sym (c .enum-told2 .given .1) ∙ c .before .before .value-of .ensures)) ∙ variable-is (c .before .before .before .before .before .before .before .before .before .before .before .before .args .book .now) (c .before .before .before .before .before .before .before .before .before .before .before .before .args .session .now) (sym (c .before .before .before .before .before .before .before .before .if1 .left) ∙ c .before .before .before .before .before .before .before .before .before .validated .ensures) (c .before .before .before .before .before .before .before .before .before .before .before .before .args .variable) (c .before .before .before .before .before .before .before .if2 .left) (omega (arith, c .before .before .before .before .before .wide .ensures, c .before .before .before .before .before .before .variables .ensures, c .before .before .before .before .if3 .left))
 
 returns-6 : tie.Need-returns-6
-returns-6 c = ap (shownAs (c .before .before .before .before .before .before .before .before .before .before .before .before .args .book .now) (c .before .before .before .before .before .before .before .before .before .before .before .before .args .session .now) (sym (c .before .before .before .before .before .before .before .before .if1 .left) ∙ c .before .before .before .before .before .before .before .before .before .examined .ensures)) (value-answers (c .before .before .before .before .before .before .before .before .before .before .before .before .args .book .now) (c .before .before .before .before .before .before .before .before .before .before .before .before .args .session .now) (sym (c .before .before .before .before .before .before .before .before .if1 .left) ∙ c .before .before .before .before .before .before .before .before .before .examined .ensures) (c .before .before .before .before .before .before .variables .result) (2 * c .before .before .before .before .before .before .before .before .before .before .before .before .args .variable) _ (c .before .before .before .before .before .before .variables .ensures) (omega (arith, c .before .before .before .before .before .before .before .if2 .left)) (omega (arith, c .before .before .before .before .before .wide .ensures, c .before .before .before .before .if3 .left)) (sym (c .enum-told3 .given .1) ∙ c .before .before .value-of .ensures)) ∙ variable-is (c .before .before .before .before .before .before .before .before .before .before .before .before .args .book .now) (c .before .before .before .before .before .before .before .before .before .before .before .before .args .session .now) (sym (c .before .before .before .before .before .before .before .before .if1 .left) ∙ c .before .before .before .before .before .before .before .before .before .examined .ensures) (c .before .before .before .before .before .before .before .before .before .before .before .before .args .variable) (c .before .before .before .before .before .before .before .if2 .left) (omega (arith, c .before .before .before .before .before .wide .ensures, c .before .before .before .before .before .before .variables .ensures, c .before .before .before .before .if3 .left))
+returns-6 c = ap (shownAs (c .before .before .before .before .before .before .before .before .before .before .before .before .args .book .now) (c .before .before .before .before .before .before .before .before .before .before .before .before .args .session .now) (sym (c .before .before .before .before .before .before .before .before .if1 .left) ∙ c .before .before .before .before .before .before .before .before .before .validated .ensures)) (value-answers (c .before .before .before .before .before .before .before .before .before .before .before .before .args .book .now) (c .before .before .before .before .before .before .before .before .before .before .before .before .args .session .now) (sym (c .before .before .before .before .before .before .before .before .if1 .left) ∙ c .before .before .before .before .before .before .before .before .before .validated .ensures) (c .before .before .before .before .before .before .variables .result) (2 * c .before .before .before .before .before .before .before .before .before .before .before .before .args .variable) _ (c .before .before .before .before .before .before .variables .ensures) (omega (arith, c .before .before .before .before .before .before .before .if2 .left)) (omega (arith, c .before .before .before .before .before .wide .ensures, c .before .before .before .before .if3 .left)) (sym (c .enum-told3 .given .1) ∙ c .before .before .value-of .ensures)) ∙ variable-is (c .before .before .before .before .before .before .before .before .before .before .before .before .args .book .now) (c .before .before .before .before .before .before .before .before .before .before .before .before .args .session .now) (sym (c .before .before .before .before .before .before .before .before .if1 .left) ∙ c .before .before .before .before .before .before .before .before .before .validated .ensures) (c .before .before .before .before .before .before .before .before .before .before .before .before .args .variable) (c .before .before .before .before .before .before .before .if2 .left) (omega (arith, c .before .before .before .before .before .wide .ensures, c .before .before .before .before .before .before .variables .ensures, c .before .before .before .before .if3 .left))
 
 pub lookup-spec : {M : Type 1} → statement M
 lookup-spec =
     tie.close
     (tie.spec
-    examined-requires
+    validated-requires
     returns
     returns-2
     variables-requires

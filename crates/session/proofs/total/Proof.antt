@@ -13,26 +13,26 @@ use Rattle.session.proofs.total.Reads as reads
 use Rattle.session.proofs.total.Lts as lts
 use Rattle.book.proofs.clauses.Reads as clauses-reads
 use Rattle.session.proofs.copies.sum_of.Reads as sum-of-reads
-use Rattle.session.proofs.examined.Reads as examined-reads
+use Rattle.session.proofs.validated.Reads as validated-reads
 use Rattle.session.proofs.needed.Reads as needed-reads
 
-examined-requires : tie.Need-examined-requires
-examined-requires c κs = search needs
+validated-requires : tie.Need-validated-requires
+validated-requires c κs = search needs
 
 returns : tie.Need-returns
-returns c = total-refused (c .before .before .before .before .args .book .now) (c .before .before .before .before .args .session .now) _ (c .before .examined .ensures) (c .if1 .taken)
+returns c = total-refused (c .before .before .before .before .args .book .now) (c .before .before .before .before .args .session .now) _ (c .before .validated .ensures) (c .if1 .taken)
 
 clauses-requires : tie.Need-clauses-requires
 clauses-requires c κs = search needs
 
 needed-requires : tie.Need-needed-requires
-needed-requires c κs = well (c .before .before .before .before .before .args .book .now) (c .before .before .before .before .before .args .session .now) (sym (c .before .if1 .left) ∙ c .before .before .examined .ensures)
+needed-requires c κs = well (c .before .before .before .before .before .args .book .now) (c .before .before .before .before .before .args .session .now) (sym (c .before .if1 .left) ∙ c .before .before .validated .ensures)
 
 sub-from : tie.Need-sub-from
-sub-from c = omega (arith, c .needed .ensures, c .before .clauses .ensures, needed-is (c .before .before .before .before .before .before .args .book .now), few-variables (c .before .before .before .before .before .before .args .book .now) (c .before .before .before .before .before .before .args .session .now) (sym (c .before .before .if1 .left) ∙ c .before .before .before .examined .ensures), few-clauses (c .before .before .before .before .before .before .args .book .now) (c .before .before .before .before .before .before .args .session .now) (sym (c .before .before .if1 .left) ∙ c .before .before .before .examined .ensures), long (c .before .before .before .before .before .before .args .book .now) (c .before .before .before .before .before .before .args .session .now) (sym (c .before .before .if1 .left) ∙ c .before .before .before .examined .ensures))
+sub-from c = omega (arith, c .needed .ensures, c .before .clauses .ensures, needed-is (c .before .before .before .before .before .before .args .book .now), few-variables (c .before .before .before .before .before .before .args .book .now) (c .before .before .before .before .before .before .args .session .now) (sym (c .before .before .if1 .left) ∙ c .before .before .before .validated .ensures), few-clauses (c .before .before .before .before .before .before .args .book .now) (c .before .before .before .before .before .before .args .session .now) (sym (c .before .before .if1 .left) ∙ c .before .before .before .validated .ensures), long (c .before .before .before .before .before .before .args .book .now) (c .before .before .before .before .before .before .args .session .now) (sym (c .before .before .if1 .left) ∙ c .before .before .before .validated .ensures))
 
 mul-sum-of : tie.Need-mul-sum-of
-mul-sum-of c = omega (arith, c .needed .ensures, c .before .clauses .ensures, needed-is (c .before .before .before .before .before .before .args .book .now), few-variables (c .before .before .before .before .before .before .args .book .now) (c .before .before .before .before .before .before .args .session .now) (sym (c .before .before .if1 .left) ∙ c .before .before .before .examined .ensures), few-clauses (c .before .before .before .before .before .before .args .book .now) (c .before .before .before .before .before .before .args .session .now) (sym (c .before .before .if1 .left) ∙ c .before .before .before .examined .ensures), long (c .before .before .before .before .before .before .args .book .now) (c .before .before .before .before .before .before .args .session .now) (sym (c .before .before .if1 .left) ∙ c .before .before .before .examined .ensures))
+mul-sum-of c = omega (arith, c .needed .ensures, c .before .clauses .ensures, needed-is (c .before .before .before .before .before .before .args .book .now), few-variables (c .before .before .before .before .before .before .args .book .now) (c .before .before .before .before .before .before .args .session .now) (sym (c .before .before .if1 .left) ∙ c .before .before .before .validated .ensures), few-clauses (c .before .before .before .before .before .before .args .book .now) (c .before .before .before .before .before .before .args .session .now) (sym (c .before .before .if1 .left) ∙ c .before .before .before .validated .ensures), long (c .before .before .before .before .before .before .args .book .now) (c .before .before .before .before .before .before .args .session .now) (sym (c .before .before .if1 .left) ∙ c .before .before .before .validated .ensures))
 
 sub-sum-of : tie.Need-sub-sum-of
 sub-sum-of c = search needs
@@ -41,19 +41,19 @@ part-sum-of-start : tie.Need-part-sum-of-start
 part-sum-of-start c = search needs
 
 part-sum-of-end : tie.Need-part-sum-of-end
-part-sum-of-end c = omega (arith, c .needed .ensures, c .before .clauses .ensures, needed-is (c .before .before .before .before .before .before .args .book .now), few-variables (c .before .before .before .before .before .before .args .book .now) (c .before .before .before .before .before .before .args .session .now) (sym (c .before .before .if1 .left) ∙ c .before .before .before .examined .ensures), few-clauses (c .before .before .before .before .before .before .args .book .now) (c .before .before .before .before .before .before .args .session .now) (sym (c .before .before .if1 .left) ∙ c .before .before .before .examined .ensures), long (c .before .before .before .before .before .before .args .book .now) (c .before .before .before .before .before .before .args .session .now) (sym (c .before .before .if1 .left) ∙ c .before .before .before .examined .ensures))
+part-sum-of-end c = omega (arith, c .needed .ensures, c .before .clauses .ensures, needed-is (c .before .before .before .before .before .before .args .book .now), few-variables (c .before .before .before .before .before .before .args .book .now) (c .before .before .before .before .before .before .args .session .now) (sym (c .before .before .if1 .left) ∙ c .before .before .before .validated .ensures), few-clauses (c .before .before .before .before .before .before .args .book .now) (c .before .before .before .before .before .before .args .session .now) (sym (c .before .before .if1 .left) ∙ c .before .before .before .validated .ensures), long (c .before .before .before .before .before .before .args .book .now) (c .before .before .before .before .before .before .args .session .now) (sym (c .before .before .if1 .left) ∙ c .before .before .before .validated .ensures))
 
 sum-of-requires : tie.Need-sum-of-requires
-sum-of-requires c κs = rw (checks-part (c .before .before .before .before .before .before .before .args .book .now) (c .before .before .before .before .before .before .before .args .session .now) (sym (c .before .before .before .if1 .left) ∙ c .before .before .before .before .examined .ensures) (c .before .needed .result) (c .before .before .clauses .result) (c .before .needed .ensures) (c .before .before .clauses .ensures)) (omega (arith, checks-count (c .before .before .before .before .before .before .before .args .book .now) (c .before .before .before .before .before .before .before .args .session .now) (sym (c .before .before .before .if1 .left) ∙ c .before .before .before .before .examined .ensures), few-clauses (c .before .before .before .before .before .before .before .args .book .now) (c .before .before .before .before .before .before .before .args .session .now) (sym (c .before .before .before .if1 .left) ∙ c .before .before .before .before .examined .ensures)))
+sum-of-requires c κs = rw (checks-part (c .before .before .before .before .before .before .before .args .book .now) (c .before .before .before .before .before .before .before .args .session .now) (sym (c .before .before .before .if1 .left) ∙ c .before .before .before .before .validated .ensures) (c .before .needed .result) (c .before .before .clauses .result) (c .before .needed .ensures) (c .before .before .clauses .ensures)) (omega (arith, checks-count (c .before .before .before .before .before .before .before .args .book .now) (c .before .before .before .before .before .before .before .args .session .now) (sym (c .before .before .before .if1 .left) ∙ c .before .before .before .before .validated .ensures), few-clauses (c .before .before .before .before .before .before .before .args .book .now) (c .before .before .before .before .before .before .before .args .session .now) (sym (c .before .before .before .if1 .left) ∙ c .before .before .before .before .validated .ensures)))
 
 returns-2 : tie.Need-returns-2
-returns-2 c = total-is (c .before .before .before .before .before .before .before .before .args .book .now) (c .before .before .before .before .before .before .before .before .args .session .now) (sym (c .before .before .before .before .if1 .left) ∙ c .before .before .before .before .before .examined .ensures) _ (c .sum-of .ensures ∙ ap sum (checks-part (c .before .before .before .before .before .before .before .before .args .book .now) (c .before .before .before .before .before .before .before .before .args .session .now) (sym (c .before .before .before .before .if1 .left) ∙ c .before .before .before .before .before .examined .ensures) (c .before .before .needed .result) (c .before .before .before .clauses .result) (c .before .before .needed .ensures) (c .before .before .before .clauses .ensures)))
+returns-2 c = total-is (c .before .before .before .before .before .before .before .before .args .book .now) (c .before .before .before .before .before .before .before .before .args .session .now) (sym (c .before .before .before .before .if1 .left) ∙ c .before .before .before .before .before .validated .ensures) _ (c .sum-of .ensures ∙ ap sum (checks-part (c .before .before .before .before .before .before .before .before .args .book .now) (c .before .before .before .before .before .before .before .before .args .session .now) (sym (c .before .before .before .before .if1 .left) ∙ c .before .before .before .before .before .validated .ensures) (c .before .before .needed .result) (c .before .before .before .clauses .result) (c .before .before .needed .ensures) (c .before .before .before .clauses .ensures)))
 
 pub total-spec : {M : Type 1} → statement M
 total-spec =
     tie.close
     (tie.spec
-    examined-requires
+    validated-requires
     returns
     clauses-requires
     needed-requires

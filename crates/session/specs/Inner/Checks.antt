@@ -8,7 +8,7 @@ use Rattle.base.specs.Lists.{member, distinct, times}
 use Rattle.book.specs.Formula.{Formula, variableOf, literalWithin}
 use Rattle.run.specs.Trail.{Entry, isTrue, isFalse, lowered}
 use Rattle.run.specs.Run.{Run, clauseOf, size, noCell, cellOf, listOf}
-use Rattle.run.specs.Valid.{Watching, standing, Settled}
+use Rattle.run.specs.Valid.{Watching, standing, Fixpoint}
 use Rattle.session.specs.Layout.{heldTrail, held}
 use Rattle.session.specs.Inner.Encodes.{TrailHeld, WatchesHeld}
 
@@ -35,9 +35,9 @@ pub record ListsGood (formula : Formula) (numbers : List ℕ) : Type 0 where
   pub listed : (l c : ℕ) → times c (listOf (held formula numbers .lists) l) ≡ standing formula (held formula numbers) l c
 
 -- one-literal clauses and watches, of the trail or of the trail without its top level
-abbrev pub SettledOn : Formula → List ℕ → Bool → Type 0
-SettledOn formula numbers below =
-    Settled formula (held formula numbers) (cond below (lowered (held formula numbers .trail)) (held formula numbers .trail))
+abbrev pub FixpointOn : Formula → List ℕ → Bool → Type 0
+FixpointOn formula numbers below =
+    Fixpoint formula (held formula numbers) (cond below (lowered (held formula numbers .trail)) (held formula numbers .trail))
 
 -- every literal of a clause is false
 abbrev pub AllFalse : Formula → List ℕ → ℕ → Type 0

@@ -10,7 +10,7 @@ use Rattle.book.specs.Numbers.{variablesOf, clausesOf, formulaOf, wellFormed}
 use Rattle.run.specs.Trail.{Entry, literalAt, isTrue, isFalse, decisions}
 use Rattle.run.specs.Scan.{Cell}
 use Rattle.run.specs.Run.{Run, size, listOf}
-use Rattle.run.proofs.Settling.{Going}
+use Rattle.run.proofs.Propagation.{Going}
 use Rattle.session.specs.Layout.{trailAt, levelsAt, valuesAt, headsAt, watchesAt, pointersAt, linksAt, checksAt, required, requiredLength, valueNumber, levelNumber, cellAt, nodeOf}
 
 -- the place of a list's head, and of a node's link

@@ -1,4 +1,4 @@
--- What the contracts of the private functions that settle say: of a visit, of propagation, of opening, decision and backtrack.
+-- What the contracts of the private functions that propagate say: of a visit, of propagation, of opening, decision and backtrack.
 use Prim.Native.Nat.{ℕ, suc, _+_, _*_, _-_, _≤_, _<_}
 use mathlib.Core.Path.{_≡_}
 use mathlib.Core.Logic.{_⊎_}
@@ -12,7 +12,7 @@ use Rattle.run.specs.Scan.{Cell, Scanned}
 use Rattle.run.specs.Run.{Run, listOf, visit, inConflict, propagate, fresh, assignUnits, openRun, decide, backtrack}
 use Rattle.run.specs.Calls.{decideRefusal, backtrackRefusal}
 use Rattle.run.specs.Valid.{Valid}
-use Rattle.run.proofs.Settling.{Going, Ended, Reading}
+use Rattle.run.proofs.Propagation.{Going, Ended, Reading}
 use Rattle.session.specs.Layout.{requiredLength, nodeOf}
 use Rattle.session.specs.Inner.Encodes.{headSlot, linkSlot, nodesOf, Encodes}
 use Rattle.session.specs.declared.scan.Scan.{Scan}

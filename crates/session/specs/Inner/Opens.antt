@@ -27,8 +27,8 @@ firstWatches v n clause c numbers =
     (getD clause 1 0)
     (2 * c + 2)
 
-unfoldable pub watchNums : ℕ → ℕ → List ℕ → ℕ → List ℕ → List ℕ
-watchNums v n clause c numbers = cond (leb 2 (length clause)) (firstWatches v n clause c numbers) numbers
+unfoldable pub freshNums : ℕ → ℕ → List ℕ → ℕ → List ℕ → List ℕ
+freshNums v n clause c numbers = cond (leb 2 (length clause)) (firstWatches v n clause c numbers) numbers
 
 -- the one-literal clauses before clause c are true
 pub record Units (book numbers : List ℕ) (c : ℕ) : Type 0 where

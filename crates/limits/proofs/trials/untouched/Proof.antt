@@ -6,10 +6,10 @@ use Rattle.limits.proofs.trials.untouched.Statement.{statement}
 use Rattle.limits.proofs.trials.untouched.Tie as tie
 
 abbrev Inv-loop : tie.InvT-loop
-Inv-loop lent from i₀ i = i₀ ≤ i
+Inv-loop buffer from i₀ i = i₀ ≤ i
 
 abbrev μ-loop : tie.MeasureT-loop
-μ-loop lent from i₀ i = length lent - i
+μ-loop buffer from i₀ i = length buffer - i
 
 loop-holds : tie.Need-loop-holds Inv-loop μ-loop
 loop-holds c = search needs

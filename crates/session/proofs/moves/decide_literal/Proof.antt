@@ -1,4 +1,4 @@
--- `decide_literal` meets its contract: the literal joins the trail, and settling goes on from there. Assumes nothing.
+-- `decide_literal` meets its contract: the literal joins the trail, and propagation goes on from there. Assumes nothing.
 use Prim.Native.Nat.{_+_}
 use mathlib.Core.Path.{_≡_, refl}
 use native.Mathlib.Omega.{arith}
@@ -50,7 +50,7 @@ assign-requires c κs =
       omega (arith, ready .within),
     )
 
--- settling goes on from the literal
+-- propagation goes on from the literal
 abbrev begun : (c : tie.After-assign) (at : Holding (c .before .before .before .before .before .before .before .before .args .book .now) (c .before .before .before .before .before .before .before .before .args .session .now)) → decideRefusal (formulaOf (c .before .before .before .before .before .before .before .before .args .book .now)) (c .before .before .before .before .before .before .before .before .args .literal) (at .run) ≡ 0
     → Propagating (c .before .before .before .before .before .before .before .before .args .book .now) (c .assign .last .0) (c .before .before .before .wide .result)
 begun c at accepted =

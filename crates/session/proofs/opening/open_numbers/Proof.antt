@@ -1,4 +1,4 @@
--- `open_numbers` meets its contract: clear, watch, assign, settle. Assumes nothing.
+-- `open_numbers` meets its contract: clear, watch, assign, propagate. Assumes nothing.
 use Prim.Native.Nat.{_+_, _*_}
 use mathlib.Core.Path.{_≡_}
 use native.Mathlib.Omega.{arith}
@@ -61,7 +61,7 @@ assign-units-requires : tie.Need-assign-units-requires
 assign-units-requires c κs =
     (c .before .before .before .before .before .before .before .before .before .before .before .before .before .pre .0, c .before .before .before .watch-all .ensures .encodes)
 
--- settling begins
+-- propagation begins
 abbrev begun : (c : tie.After-assign-units) → Propagating (c .before .before .before .before .before .before .before .before .before .before .before .before .before .before .args .book .now) (c .assign-units .last .1 .0) 0
 begun c = opening-begun (c .before .before .before .before .before .before .before .before .before .before .before .before .before .before .args .book .now) (c .before .before .before .before .before .before .before .before .before .before .before .before .before .before .args .session .now) (c .before .before .before .before .before .before .before .before .clear .last .0) _ (c .before .before .before .before .before .before .before .before .before .before .before .before .before .before .pre .0) (count-is (c .before .before .before .before .before .before .before .before .before)) (c .before .before .before .before .before .before .before .before .clear .ensures) (c .assign-units .ensures .encodes)
 

@@ -8,7 +8,7 @@ use lib.ListN.{length, length-set}
 use Rattle.book.specs.Numbers.{clausesOf, clauseAt}
 use Rattle.book.proofs.PartLaws.{length-clauses}
 use Rattle.book.proofs.WellFormedLaws.{well-formed-limited}
-use Rattle.session.specs.Inner.Opens.{watchNums}
+use Rattle.session.specs.Inner.Opens.{freshNums}
 use Rattle.session.proofs.OpeningLaws.{ClauseRead, clause-read, first-stores}
 use Rattle.session.proofs.opening.watch_clause.Statement.{statement}
 use Rattle.session.proofs.opening.watch_clause.Tie as tie
@@ -65,7 +65,7 @@ sub-if1 c =
     clause-at c .rises
 
 returns : tie.Need-returns
-unfolding watchNums
+unfolding freshNums
 returns c =
     rw (lt-leb 2 (length (clauseAt (c .before .before .before .before .before .before .before .args .book .now) (c .before .before .before .before .before .before .before .args .c))) (omega (arith, clause-at (c .before) .size-is, c .if1 .taken)))
 

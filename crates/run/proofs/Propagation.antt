@@ -1,0 +1,255 @@
+-- The invariants of propagation: what holds when some trail literals are handled, and what that gives for a valid run.
+use Prim.Native.Nat.{ℕ, suc, _≤_, _<_}
+use native.Mathlib.Omega.{arith}
+use mathlib.Core.Bool.{true, false}
+use mathlib.Core.List.{List, _∷_}
+use mathlib.Core.Logic.{_⊎_, inl, inr}
+use mathlib.Core.Path.{_≡_, sym, _∙_}
+use borrow.Author.Tests.{eq-eqb}
+use lib.ListN.{length, getD}
+use Rattle.base.specs.Lists.{member, distinct, times}
+use Rattle.base.proofs.Bools.{decided}
+use Rattle.book.specs.Formula.{Formula, literalWithin}
+use Rattle.run.specs.Trail.{Entry, opposite, place, isTrue, isFalse, decisions, level, lowered}
+use Rattle.run.specs.Scan.{Cell}
+use Rattle.run.specs.Run.{Run, clauseOf, size, listOf, maxCount, inConflict}
+use Rattle.run.specs.Calls.{maxBacktracks}
+use Rattle.run.specs.Valid.{Justified, Guarded, WatchesHold, Fixpoint, Valid}
+use Rattle.run.proofs.Trails.{PlaceCase, true-place, place-true, untrue-place, place-untrue, place-cases, place-within, variables, consistent, newer, whole, suffix-length, suffix-place, suffix-on, suffix-level, lowered-suffix, lower-level, below-top}
+use Rattle.run.proofs.WatchLists.{secondLiteral, firstLiteral, Watched}
+
+-- The watch condition as an implication: where watch a is false and handled (among the first h of the trail), watch b is true at a level
+-- not above.
+abbrev pub Guard : List Entry → ℕ → ℕ → ℕ → Type 0
+Guard trail h a b =
+    0 < place trail (opposite a) → place trail (opposite a) ≤ h → (0 < place trail b) × (level trail b ≤ level trail (opposite a))
+
+pub record Kept (trail : List Entry) (h a b : ℕ) : Type 0 where
+  pub forth : Guard trail h a b
+  pub back : Guard trail h b a
+
+-- of the watches of clause c
+abbrev pub KeptAt : Formula → List Cell → List Entry → ℕ → ℕ → Type 0
+KeptAt formula cells trail h c = Kept trail h (firstLiteral formula cells c) (secondLiteral formula cells c)
+
+pub kept-swap : {trail : List Entry} {h a b : ℕ} → Kept trail h a b → Kept trail h b a
+kept-swap k = record { forth = k .back; back = k .forth }
+
+-- with all literals handled it is the condition of a valid run
+pub kept-holds : {trail : List Entry} {h a b : ℕ} → Kept trail h a b → length trail ≤ h → WatchesHold trail a b
+kept-holds {trail} {h} {a} {b} k all = go (decided (isFalse trail a)) (decided (isFalse trail b))
+  where
+    guarded : (x y : ℕ) → Guard trail h x y → isFalse trail x ≡ true → Guarded trail x y
+    guarded x y g f =
+        let r = g (true-place trail (opposite x) f) (let w = place-within trail (opposite x) in omega arith) in
+        (f, place-true trail y (r .0), r .1)
+
+    go : (isFalse trail a ≡ true) ⊎ (isFalse trail a ≡ false) → (isFalse trail b ≡ true) ⊎ (isFalse trail b ≡ false) → WatchesHold trail a b
+    go (inl f) s = inr (inl (guarded a b (k .forth) f))
+    go (inr f) (inl s) = inr (inr (guarded b a (k .back) s))
+    go (inr f) (inr s) = inl (f, s)
+
+pub holds-kept : {trail : List Entry} {a b : ℕ} → distinct (variables trail) ≡ true → WatchesHold trail a b → (h : ℕ) → Kept trail h a b
+holds-kept {trail} {a} {b} d w h = go w
+  where
+    unfalse : (x y : ℕ) → isFalse trail x ≡ false → Guard trail h x y
+    unfalse x y f p q = absurd (let z = untrue-place trail (opposite x) f in omega arith)
+
+    true-unfalse : (x : ℕ) → isTrue trail x ≡ true → isFalse trail x ≡ false
+    true-unfalse x t = place-untrue trail (opposite x) (consistent trail x d (true-place trail x t))
+
+    guard : (x y : ℕ) → Guarded trail x y → Guard trail h x y
+    guard x y g p q = (true-place trail y (g .1), g .2)
+
+    go : WatchesHold trail a b → Kept trail h a b
+    go (inl n) = record { forth = unfalse a b (n .0); back = unfalse b a (n .1) }
+    go (inr (inl g)) = record { forth = guard a b g; back = unfalse b a (true-unfalse b (g .1)) }
+    go (inr (inr g)) = record { forth = unfalse a b (true-unfalse a (g .1)); back = guard b a g }
+
+-- one entry more, of a literal that was not on the trail: old places and levels stay
+pub old-stays : (e : Entry) (trail : List Entry) → place trail (e .literal) ≡ 0 → (l : ℕ) → 0 < place trail l
+    → (place (e ∷ trail) l ≡ place trail l) × (level (e ∷ trail) l ≡ level trail l)
+old-stays e trail new l h = go (place-cases e trail l)
+  where
+    go : PlaceCase e trail l
+        → (place (e ∷ trail) l ≡ place trail l) × (level (e ∷ trail) l ≡ level trail l)
+    go (inl p) = absurd (let z : place trail l ≡ 0 = rw (← p .0) new in omega arith)
+    go (inr p) = (p .1, sym (suffix-level (newer e whole) l (let w = place-within trail l in omega arith)))
+
+pub kept-push : {trail : List Entry} {h a b : ℕ} (e : Entry) → place trail (e .literal) ≡ 0 → h ≤ length trail → Kept trail h a b
+    → Kept (e ∷ trail) h a b
+kept-push {trail} {h} {a} {b} e new within k = record { forth = guard a b (k .forth); back = guard b a (k .back) }
+  where
+    guard : (x y : ℕ) → Guard trail h x y → Guard (e ∷ trail) h x y
+    guard x y g p q =
+        let old : place trail (opposite x) ≡ place (e ∷ trail) (opposite x) = suffix-place (newer e whole) (opposite x) (omega arith) in
+        let old-level : level trail (opposite x) ≡ level (e ∷ trail) (opposite x)
+        = suffix-level (newer e whole) (opposite x) (omega arith) in
+        let r = g (omega arith) (omega arith) in
+        let stays = old-stays e trail new y (r .0) in
+        (omega arith, omega arith)
+
+-- the trail without its top level keeps the condition, if the handled literals reach that far
+pub kept-lowered : {trail : List Entry} {h a b : ℕ} → distinct (variables trail) ≡ true → 0 < length (decisions trail)
+    → length (lowered trail) ≤ h
+    → Kept trail h a b → (h′ : ℕ) → Kept (lowered trail) h′ a b
+kept-lowered {trail} {h} {a} {b} d some low k h′ = record { forth = guard a b (k .forth); back = guard b a (k .back) }
+  where
+    guard : (x y : ℕ) → Guard trail h x y → Guard (lowered trail) h′ x y
+    guard x y g p q =
+        let on : place trail (opposite x) ≡ place (lowered trail) (opposite x) = suffix-on (lowered-suffix trail) (opposite x) d p in
+        let within = place-within (lowered trail) (opposite x) in
+        let r = g (omega arith) (omega arith) in
+        let below = lower-level trail (opposite x) some (omega arith) in
+        let there : place trail y ≤ length (lowered trail) = below-top trail y (omega arith) in
+        let same-place : place (lowered trail) y ≡ place trail y = suffix-place (lowered-suffix trail) y there in
+        let same-level : level (lowered trail) y ≡ level trail y = suffix-level (lowered-suffix trail) y there in
+        let x-level : level (lowered trail) (opposite x) ≡ level trail (opposite x)
+        = suffix-level (lowered-suffix trail) (opposite x) (omega arith) in
+        (omega arith, omega arith)
+
+-- What holds when the first `handled` trail literals are handled: of clauses of one literal, of watches, and of the top level.
+pub record Pending (formula : Formula) (cells : List Cell) (trail : List Entry) (handled : ℕ) : Type 0 where
+  pub units-on : (c : ℕ) → size formula c ≡ 1 → 0 < place trail (getD (clauseOf formula c) 0 0)
+  pub units-level : (c : ℕ) → size formula c ≡ 1 → level trail (getD (clauseOf formula c) 0 0) ≡ 0
+  pub kept : (c : ℕ) → 2 ≤ size formula c
+      → KeptAt formula cells trail handled c
+  pub low : length (lowered trail) ≤ handled
+
+-- one entry more, of a literal that was not on the trail
+pub pending-push : {formula : Formula} {cells : List Cell} {trail : List Entry} {handled : ℕ} (e : Entry) → place trail (e .literal) ≡ 0
+    → handled ≤ length trail → length (lowered (e ∷ trail)) ≤ handled → Pending formula cells trail handled
+    → Pending formula cells (e ∷ trail) handled
+pending-push {formula} {cells} {trail} {handled} e off within low p =
+    record {
+      units-on = λ c u. rw (old-stays e trail off (getD (clauseOf formula c) 0 0) (p .units-on c u) .0) (p .units-on c u);
+      units-level = λ c u. old-stays e trail off (getD (clauseOf formula c) 0 0) (p .units-on c u) .1 ∙ p .units-level c u;
+      kept = λ c two. kept-push e off within (p .kept c two);
+      low = low;
+    }
+
+-- all handled: the trail is at its fixpoint, and at the fixpoint all is handled
+pub propagation : {formula : Formula} {trail : List Entry} {handled : ℕ} (run : Run) → Pending formula (run .cells) trail handled
+    → length trail ≤ handled
+    → Fixpoint formula run trail
+propagation {formula} {trail} run p all =
+    record {
+      units-true = λ c u. place-true trail (getD (clauseOf formula c) 0 0) (p .units-on c u);
+      units-level = p .units-level;
+      watches = λ c t. kept-holds (p .kept c t) all;
+    }
+
+pub unfixed : {formula : Formula} {trail : List Entry} (run : Run) → distinct (variables trail) ≡ true → Fixpoint formula run trail
+    → Pending formula (run .cells) trail (length trail)
+unfixed {formula} {trail} run d s =
+    record {
+      units-on = λ c u. true-place trail (getD (clauseOf formula c) 0 0) (s .units-true c u);
+      units-level = s .units-level;
+      kept = λ c t. holds-kept d (s .watches c t) (length trail);
+      low = suffix-length (lowered-suffix trail);
+    }
+
+-- the trail without its top level is all handled
+pub pending-lowered : {formula : Formula} {cells : List Cell} {trail : List Entry} {handled : ℕ} → distinct (variables trail) ≡ true
+    → 0 < length (decisions trail) → Pending formula cells trail handled → Pending formula cells (lowered trail) (length (lowered trail))
+pending-lowered {formula} {cells} {trail} {handled} d some p =
+    record {
+      units-on = λ c u. rw (suffix-place (lowered-suffix trail) (getD (clauseOf formula c) 0 0) (down c u)) (p .units-on c u);
+      units-level = λ c u. suffix-level (lowered-suffix trail) (getD (clauseOf formula c) 0 0) (down c u) ∙ p .units-level c u;
+      kept = λ c t. kept-lowered d some (p .low) (p .kept c t) (length (lowered trail));
+      low = suffix-length (lowered-suffix (lowered trail));
+    }
+  where
+    down : (c : ℕ) → size formula c ≡ 1 → place trail (getD (clauseOf formula c) 0 0) ≤ length (lowered trail)
+    down c u = below-top trail (getD (clauseOf formula c) 0 0) (let z = p .units-level c u in omega arith)
+
+-- The structural conditions of a valid run, part by part.
+pub record Trailed (formula : Formula) (trail : List Entry) : Type 0 where
+  pub within : (l : ℕ) → isTrue trail l ≡ true → literalWithin (formula .variables) l ≡ true
+  pub once : distinct (variables trail) ≡ true
+  pub justified : Justified formula trail
+
+pub record Counted (formula : Formula) (checks : List ℕ) (backtracks : ℕ) : Type 0 where
+  pub checks-length : length checks ≡ length (formula .clauses)
+  pub checks-within : (c : ℕ) → getD checks c 0 ≤ maxCount
+  pub backtracks-within : backtracks ≤ maxBacktracks
+
+pub record Structure (formula : Formula) (run : Run) : Type 0 where
+  pub watched : Watched formula (run .cells) (run .lists)
+  pub trailed : Trailed formula (run .trail)
+  pub counted : Counted formula (run .checks) (run .backtracks)
+
+pub valid-structure : {formula : Formula} {run : Run} → Valid formula run → Structure formula run
+valid-structure v =
+    record {
+      watched =
+          record {
+            cells-length = v .cells-length;
+            lists-length = v .lists-length;
+            watching = v .watching;
+            unwatched = v .unwatched;
+            listed = v .listed;
+          };
+      trailed = record { within = v .trail-within; once = v .trail-distinct; justified = v .justified };
+      counted =
+          record {
+            checks-length = v .checks-length;
+            checks-within = v .checks-within;
+            backtracks-within = v .backtracks-within;
+          };
+    }
+
+-- a valid run out of its structure and its state
+pub structure-valid : {formula : Formula} {run : Run} → Structure formula run
+    → (run .conflict ≡ 0 → Fixpoint formula run (run .trail))
+    → ((c : ℕ) → run .conflict ≡ suc c
+    → (c < length (formula .clauses)) × ((m : ℕ) → member m (clauseOf formula c) ≡ true → isFalse (run .trail) m ≡ true))
+    → ((c : ℕ) → run .conflict ≡ suc c → 0 < length (decisions (run .trail)) → Fixpoint formula run (lowered (run .trail)))
+    → Valid formula run
+structure-valid s fixpoint conflict-false fixpoint-below =
+    record {
+      trail-within = s .trailed .within;
+      cells-length = s .watched .cells-length;
+      lists-length = s .watched .lists-length;
+      checks-length = s .counted .checks-length;
+      checks-within = s .counted .checks-within;
+      backtracks-within = s .counted .backtracks-within;
+      trail-distinct = s .trailed .once;
+      justified = s .trailed .justified;
+      watching = s .watched .watching;
+      unwatched = s .watched .unwatched;
+      listed = s .watched .listed;
+      fixpoint = fixpoint;
+      conflict-false = conflict-false;
+      fixpoint-below = fixpoint-below;
+    }
+
+-- Propagation with `handled` literals handled; and ended in a conflict.
+pub record Going (formula : Formula) (handled : ℕ) (run : Run) : Type 0 where
+  pub structure : Structure formula run
+  pub quiet : run .conflict ≡ 0
+  pub pending : Pending formula (run .cells) (run .trail) handled
+
+pub record Ended (formula : Formula) (run : Run) : Type 0 where
+  pub valid : Valid formula run
+  pub loud : inConflict run ≡ true
+
+-- Reading the list of q, whose opposite is the next trail literal, with `unread` left of it.
+pub record Reading (formula : Formula) (handled q : ℕ) (unread : List ℕ) (run : Run) : Type 0 where
+  pub going : Going formula handled run
+  pub next : place (run .trail) (opposite q) ≡ suc handled
+  pub read : (c : ℕ) → 2 ≤ size formula c → times c unread ≡ 0
+      → KeptAt formula (run .cells) (run .trail) (suc handled) c
+  pub left : (c : ℕ) → times c unread ≤ times c (listOf (run .lists) q)
+
+pub quiet-out : (run : Run) → run .conflict ≡ 0 → inConflict run ≡ false
+quiet-out run e = rw (eq-eqb (run .conflict) 0 e)
+
+-- all handled is valid
+pub going-valid : {formula : Formula} {handled : ℕ} {run : Run} → Going formula handled run → length (run .trail) ≤ handled
+    → Valid formula run
+going-valid {formula} {handled} {run} g all =
+    structure-valid (g .structure)
+    (λ q. propagation run (g .pending) all)
+    (λ c e. absurd (let z = g .quiet in omega arith))
+    (λ c e. absurd (let z = g .quiet in omega arith))

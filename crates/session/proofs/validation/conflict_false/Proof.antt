@@ -1,0 +1,88 @@
+-- `session::validation::conflict_false` meets its contract: the part of the book is clause c. Assumes nothing.
+use Prim.Native.Nat.{_≤_}
+use native.Mathlib.Omega.{arith}
+use lib.ListN.{length}
+use Rattle.session.proofs.ReadingLaws.{validated-readable, validated-clause, validated-inside}
+use Rattle.session.proofs.JustifyLaws.{false-at}
+use Rattle.session.proofs.validation.conflict_false.Statement.{statement}
+use Rattle.session.proofs.validation.conflict_false.Tie as tie
+
+variables-requires : tie.Need-variables-requires
+variables-requires c κs = tt
+
+clause-start-requires : tie.Need-clause-start-requires
+clause-start-requires c κs = tt
+
+add-clause-start : tie.Need-add-clause-start
+add-clause-start c = omega arith
+
+clause-start-requires-2 : tie.Need-clause-start-requires-2
+clause-start-requires-2 c κs = tt
+
+-- the clause lies within the book
+inside : (c : tie.After-clause-start2)
+    →
+    (c .before .clause-start .result ≤ c .clause-start2 .result) × (c .clause-start2 .result ≤ length
+    (c .before .before .before .before .before .args .book .now))
+inside c =
+    validated-inside
+    (c .before .before .before .before .before .args .book .now) _
+    (c .before .before .before .before .before .pre .0)
+    (c .before .before .before .before .before .args .c) _ _
+    (c .before .before .before .before .before .pre .1)
+    (c .before .clause-start .ensures) (c .clause-start2 .ensures)
+
+mul-all-false : tie.Need-mul-all-false
+mul-all-false c = omega (arith, inside c)
+
+sub-all-false : tie.Need-sub-all-false
+sub-all-false c = omega (arith, inside c)
+
+part-all-false-start : tie.Need-part-all-false-start
+part-all-false-start c = omega (arith, inside c)
+
+part-all-false-end : tie.Need-part-all-false-end
+part-all-false-end c = omega (arith, inside c)
+
+all-false-requires : tie.Need-all-false-requires
+all-false-requires c κs = (
+  validated-readable
+      (c .before .before .before .before .before .before .args .book .now) _
+      (c .before .before .before .before .before .before .pre .0) _
+      (c .before .before .before .variables .ensures),
+  validated-clause
+      (c .before .before .before .before .before .before .args .book .now) _
+      (c .before .before .before .before .before .before .pre .0) _
+      (c .before .before .before .variables .ensures)
+      (c .before .before .before .before .before .before .args .c) _ _
+      (c .before .before .before .before .before .before .pre .1)
+      (c .before .before .clause-start .ensures) (c .before .clause-start2 .ensures),
+)
+
+returns : tie.Need-returns
+returns c =
+    false-at
+    (c .before .before .before .before .before .before .before .args .book .now)
+    (c .before .before .before .before .before .before .before .args .session .now)
+    (c .before .before .before .before .before .before .before .args .c) _ _ _
+    (c .before .before .before .before .variables .ensures)
+    (c .before .before .before .clause-start .ensures)
+    (c .before .before .clause-start2 .ensures)
+    (c .before .before .before .before .before .before .before .pre .1)
+    _
+    (c .all-false .ensures)
+
+pub conflict-false-spec : {M : Type 1} → statement M
+conflict-false-spec =
+    tie.close
+    (tie.spec
+    variables-requires
+    clause-start-requires
+    add-clause-start
+    clause-start-requires-2
+    mul-all-false
+    sub-all-false
+    part-all-false-start
+    part-all-false-end
+    all-false-requires
+    returns)

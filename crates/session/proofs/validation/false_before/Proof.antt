@@ -1,0 +1,59 @@
+-- `session::validation::false_before` meets its contract, by the places of the literal and of its opposite. Assumes nothing.
+use native.Mathlib.Omega.{arith}
+use mathlib.Core.Path.{_≡_, ap, _∙_}
+use Rattle.run.specs.Trail.{opposite, place}
+use Rattle.book.proofs.SoundLaws.{literal-parts}
+use Rattle.session.specs.Inner.Validating.{trailOf}
+use Rattle.session.proofs.SaysLaws.{says-true, says-false, says-below}
+use Rattle.session.proofs.JustifyLaws.{opposite-within, before-at, before-not, before-false}
+use Rattle.session.proofs.validation.false_before.Statement.{statement}
+use Rattle.session.proofs.validation.false_before.Tie as tie
+
+place-of-requires : tie.Need-place-of-requires
+place-of-requires c κs = (c .before .pre .0, c .before .pre .1)
+
+returns : tie.Need-returns
+returns c = says-true (before-at _ _ _ _ (c .before .place-of .ensures) (c .if1 .taken))
+
+opposite-requires : tie.Need-opposite-requires
+opposite-requires c κs = omega (arith, literal-parts _ _ (c .before .before .before .pre .1))
+
+place-of-requires-2 : tie.Need-place-of-requires-2
+place-of-requires-2 c κs =
+    (c .before .before .before .before .pre .0, rw (c .opposite .ensures) (opposite-within _ _ (c .before .before .before .before .pre .1)))
+
+-- the place of the opposite
+against : (c : tie.After-place-of2)
+    → c .place-of2 .result
+    ≡ place
+    (trailOf (c .before .before .before .before .before .args .variables) (c .before .before .before .before .before .args .session .now))
+    (opposite (c .before .before .before .before .before .args .literal))
+against c =
+    c .place-of2 .ensures
+    ∙ ap
+    (place (trailOf (c .before .before .before .before .before .args .variables) (c .before .before .before .before .before .args .session .now)))
+    (c .before .opposite .ensures)
+
+returns-2 : tie.Need-returns-2
+returns-2 c =
+    says-false
+    (before-not _ _ _ _ (c .before .before .before .before .place-of .ensures) _ (against (c .before)) (c .before .before .before .if1 .left)
+    (λ some _. omega arith))
+
+returns-3 : tie.Need-returns-3
+returns-3 c =
+    says-below _ _
+    (before-false _ _ _ _ (c .before .before .before .before .place-of .ensures) _ (against (c .before)) (c .if2 .left))
+    (λ high. before-not _ _ _ _ (c .before .before .before .before .place-of .ensures) _ (against (c .before)) (c .before .before .before .if1 .left)
+    (λ _ low. omega arith))
+
+pub false-before-spec : {M : Type 1} → statement M
+false-before-spec =
+    tie.close
+    (tie.spec
+    place-of-requires
+    returns
+    opposite-requires
+    place-of-requires-2
+    returns-2
+    returns-3)

@@ -1,0 +1,156 @@
+-- `session::validation::justified` meets its contract. The loop's invariant: the places that the clauses before c imply are marked. The measure
+-- is how many clauses are left. Assumes nothing.
+use Prim.Native.Nat.{_-_, _≤_, _<_}
+use native.Mathlib.Omega.{arith}
+use lib.ListN.{length}
+use Rattle.book.specs.Numbers.{variablesOf, clausesOf}
+use Rattle.session.specs.Inner.Validating.{trailOf}
+use Rattle.session.proofs.ReadingLaws.{validated-readable, validated-clause, validated-inside}
+use Rattle.session.proofs.JustifyLaws.{Marking, marking-none, marking-more, marking-all, justified-said, implied-at, implied-small}
+use Rattle.session.proofs.validation.justified.Statement.{statement}
+use Rattle.session.proofs.validation.justified.Tie as tie
+
+abbrev Inv-loop : tie.InvT-loop
+Inv-loop book session variables clauses marks₀ c₀ marks c =
+    (c ≤ clauses) × Marking (trailOf (variablesOf book) session) book marks c
+
+abbrev μ-loop : tie.MeasureT-loop
+μ-loop book session variables clauses marks₀ c₀ marks c = clauses - c
+
+variables-requires : tie.Need-variables-requires Inv-loop μ-loop
+variables-requires c κs = tt
+
+clauses-requires : tie.Need-clauses-requires Inv-loop μ-loop
+clauses-requires c κs = tt
+
+loop-holds : tie.Need-loop-holds Inv-loop μ-loop
+loop-holds c = (omega arith, marking-none _ _)
+
+clause-start-requires : tie.Need-clause-start-requires Inv-loop μ-loop
+clause-start-requires c κs = tt
+
+add-clause-start : tie.Need-add-clause-start Inv-loop μ-loop
+add-clause-start c = omega arith
+
+clause-start-requires-2 : tie.Need-clause-start-requires-2 Inv-loop μ-loop
+clause-start-requires-2 c κs = tt
+
+-- the clause is one of the book's and lies within it
+exists : (c : tie.After-clause-start2 Inv-loop μ-loop) → c .before .before .before .loop .c < clausesOf
+    (c .before .before .before .before .before .before .before .before .args .book .now)
+exists c = omega arith
+
+inside : (c : tie.After-clause-start2 Inv-loop μ-loop)
+    →
+    (c .before .clause-start .result ≤ c .clause-start2 .result) × (c .clause-start2 .result ≤ length
+    (c .before .before .before .before .before .before .before .before .args .book .now))
+inside c =
+    validated-inside
+    (c .before .before .before .before .before .before .before .before .args .book .now) _
+    (c .before .before .before .before .before .before .before .before .pre)
+    (c .before .before .before .loop .c) _ _ (exists c)
+    (c .before .clause-start .ensures) (c .clause-start2 .ensures)
+
+mul-implied-place : tie.Need-mul-implied-place Inv-loop μ-loop
+mul-implied-place c = omega (arith, inside c)
+
+sub-implied-place : tie.Need-sub-implied-place Inv-loop μ-loop
+sub-implied-place c = omega (arith, inside c)
+
+part-implied-place-start : tie.Need-part-implied-place-start Inv-loop μ-loop
+part-implied-place-start c = omega (arith, inside c)
+
+part-implied-place-end : tie.Need-part-implied-place-end Inv-loop μ-loop
+part-implied-place-end c = omega (arith, inside c)
+
+implied-place-requires : tie.Need-implied-place-requires Inv-loop μ-loop
+implied-place-requires c κs = (
+  validated-readable
+      (c .before .before .before .before .before .before .before .before .before .args .book .now) _
+      (c .before .before .before .before .before .before .before .before .before .pre) _
+      (c .before .before .before .before .before .before .variables .ensures),
+  validated-clause
+      (c .before .before .before .before .before .before .before .before .before .args .book .now) _
+      (c .before .before .before .before .before .before .before .before .before .pre) _
+      (c .before .before .before .before .before .before .variables .ensures)
+      (c .before .before .before .before .loop .c) _ _ (exists
+      (c .before))
+      (c .before .before .clause-start .ensures) (c .before .clause-start2 .ensures),
+)
+
+-- the place that the clause implies is one of the marks
+small : (c : tie.After-implied-place Inv-loop μ-loop) → c .implied-place .result < 501
+small c =
+    let readable = validated-readable
+    (c .before .before .before .before .before .before .before .before .before .before .args .book .now) _
+    (c .before .before .before .before .before .before .before .before .before .before .pre)
+    (c .before .before .before .before .before .before .before .variables .result)
+    (c .before .before .before .before .before .before .before .variables .ensures) in
+    omega (arith, implied-small _ _ _ _ readable (c .implied-place .ensures))
+
+array-write-marks : tie.Need-array-write-marks Inv-loop μ-loop
+array-write-marks c = small c
+
+add-c : tie.Need-add-c Inv-loop μ-loop
+add-c c = omega arith
+
+loop-less : tie.Need-loop-less Inv-loop μ-loop
+loop-less c = omega arith
+
+loop-again : tie.Need-loop-again Inv-loop μ-loop
+loop-again c = (
+  omega arith,
+  marking-more _ _ _ (c .before .before .before .before .before .loop .c) _ (c .before .before .before .before .before .loop .inv .1) (small c)
+      (implied-at
+      (c .before .before .before .before .before .before .before .before .before .before .args .book .now)
+      (c .before .before .before .before .before .before .before .before .before .before .args .session .now)
+      (c .before .before .before .before .before .loop .c) _ _ _
+      (c .before .before .before .before .before .before .before .variables .ensures)
+      (c .before .before .before .clause-start .ensures)
+      (c .before .before .clause-start2 .ensures)
+      _
+      (c .implied-place .ensures)),
+)
+
+implied-marked-requires : tie.Need-implied-marked-requires Inv-loop μ-loop
+implied-marked-requires c κs = validated-readable
+    (c .before .before .before .before .before .before .before .args .book .now) _
+    (c .before .before .before .before .before .before .before .pre) _
+    (c .before .before .before .before .variables .ensures)
+
+returns : tie.Need-returns Inv-loop μ-loop
+returns c =
+    justified-said
+    (c .before .before .before .before .before .before .before .before .args .book .now)
+    (c .before .before .before .before .before .before .before .before .args .session .now)
+    (c .before .before .before .loop .marks)
+    (c .before .before .before .before .before .before .before .before .pre)
+    (marking-all _ _ _ (c .before .before .before .loop .c) _ (omega arith) (c .before .before .before .loop .inv .1))
+    _
+    _
+    (c .before .before .before .before .before .variables .ensures)
+    (c .implied-marked .ensures)
+
+pub justified-spec : {M : Type 1} → statement M
+justified-spec =
+    tie.close
+    (tie.spec
+    Inv-loop
+    μ-loop
+    variables-requires
+    clauses-requires
+    loop-holds
+    clause-start-requires
+    add-clause-start
+    clause-start-requires-2
+    mul-implied-place
+    sub-implied-place
+    part-implied-place-start
+    part-implied-place-end
+    implied-place-requires
+    array-write-marks
+    add-c
+    loop-less
+    loop-again
+    implied-marked-requires
+    returns)

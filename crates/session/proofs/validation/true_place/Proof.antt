@@ -1,0 +1,71 @@
+-- `session::validation::true_place` meets its contract. The loop's invariant: no literal before i is true. The measure is how many are left.
+-- Assumes nothing.
+use Prim.Native.Nat.{ℕ, _-_, _≤_, _<_}
+use native.Mathlib.Omega.{arith}
+use borrow.Author.Count.{below-more}
+use mathlib.Core.Path.{_≡_, sym, _∙_}
+use lib.ListN.{length, getD}
+use Rattle.run.specs.Trail.{place}
+use Rattle.session.specs.Inner.Validating.{trailOf}
+use Rattle.session.proofs.JustifyLaws.{sound-within, true-found, true-none}
+use Rattle.session.proofs.validation.true_place.Statement.{statement}
+use Rattle.session.proofs.validation.true_place.Tie as tie
+
+abbrev Inv-loop : tie.InvT-loop
+Inv-loop clause session variables i₀ i =
+    (i ≤ length clause) × ((k : ℕ) → k < i → place (trailOf variables session) (getD clause k 0) ≡ 0)
+
+abbrev μ-loop : tie.MeasureT-loop
+μ-loop clause session variables i₀ i = length clause - i
+
+loop-holds : tie.Need-loop-holds Inv-loop μ-loop
+loop-holds c = (omega arith, λ k h. absurd (omega arith))
+
+mul-place-of : tie.Need-mul-place-of Inv-loop μ-loop
+mul-place-of c = omega arith
+
+shared-slice-read-place-of : tie.Need-shared-slice-read-place-of Inv-loop μ-loop
+shared-slice-read-place-of c = omega arith
+
+place-of-requires : tie.Need-place-of-requires Inv-loop μ-loop
+place-of-requires c κs = (
+  c .before .before .before .before .before .pre .0,
+  sound-within _ _
+      (c .before .before .before .before .before .pre .1)
+      (c .before .before .loop .i) (omega arith),
+)
+
+returns : tie.Need-returns Inv-loop μ-loop
+returns c = true-found _ _ (c .before .before .before .before .loop .i) _ (omega arith) (c .before .place-of .ensures) (c .if1 .taken)
+
+add-i : tie.Need-add-i Inv-loop μ-loop
+add-i c = omega arith
+
+loop-less : tie.Need-loop-less Inv-loop μ-loop
+loop-less c = omega arith
+
+loop-again : tie.Need-loop-again Inv-loop μ-loop
+loop-again c = (
+  omega arith,
+  below-more _ _ (c .before .before .before .before .loop .inv .1)
+      (let off : c .before .place-of .result ≡ 0 = omega arith in sym (c .before .place-of .ensures) ∙ off),
+)
+
+returns-2 : tie.Need-returns-2 Inv-loop μ-loop
+returns-2 c = true-none _ _ (λ i h. c .before .loop .inv .1 i (omega arith))
+
+pub true-place-spec : {M : Type 1} → statement M
+true-place-spec =
+    tie.close
+    (tie.spec
+    Inv-loop
+    μ-loop
+    loop-holds
+    mul-place-of
+    shared-slice-read-place-of
+    place-of-requires
+    returns
+    add-i
+    loop-less
+    loop-again
+    returns-2)
