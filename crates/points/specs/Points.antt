@@ -13,7 +13,7 @@ use Rattle.book.specs.Text.{blank, lineEnd, extend, split, kept, linesOf, fille
 use Rattle.book.specs.Faults.{fault, opened, closed, written, notNumber, overVariables, wrongLength, repeated, surplus, unfinished, overLiterals, faultsAt, faultsFrom, outside, bodyOf, faultsUnder, faultsOf}
 use Rattle.book.specs.Reading.{before, earlier, least, onto, clausesIn, formulaUnder, formulaIn, refused, accepted, judged, readText}
 use Rattle.book.specs.Printer.{digits, printNumber}
-use Rattle.run.specs.Trail.{Entry, opposite, place, literalAt, isTrue, decisions, lowered, cut}
+use Rattle.run.specs.Trail.{Entry, opposite, place, literalAt, isTrue, decisions, level, lowered, cut}
 use Rattle.run.specs.Scan.{Cell, watched, next, oneMore, scanFrom, scan}
 use Rattle.run.specs.Run.{Run, size, cellOf, listOf, pushFront, without, takeOut, addChecks, otherWatch, moved, scannedAction, action, onTrail, withWatches, withConflict, counted, perform, visit, readList, propagateFrom, firstCell, watchAll, fresh, assignUnit, assignUnits, openRun, decide, backtrack}
 use Rattle.run.specs.Calls.{Call, decision, backtrackBy, decideRefusal, backtrackRefusal, refusal, perform as performCall, step, stepAll, reference}
@@ -199,7 +199,7 @@ pub record Table : Type 0 where
   pub conflict-ends-named : reference torn (decision (negative 1) ∷ []) .conflict ≡ 2
 
 pub table : Table
-unfolding any distinct times values upTo soundClause sound starts numbersOf clausesFrom rising wellFormed valueNumber levelNumber nodeOf watchLiteral firstNode behind headNumber linkNumber watchNumber encode levelBefore heldTrail heldCells chainFrom heldLists held hasReason isJustified isWatching isGuarded watchesHold isFixpoint isConflict isListed isValid passes callRefusal sessionBacktrackRefusal backtrackNumbers numbersAfter all keep flat empty member same begins literalWithin blank lineEnd extend split kept linesOf filled wordsOf decimal isDigit unsigned unsignedToken negativeToken tokenOf headed headerIn headerOf fault opened closed written notNumber overVariables wrongLength repeated surplus unfinished overLiterals faultsAt faultsFrom outside bodyOf faultsUnder faultsOf before earlier least onto clausesIn formulaUnder formulaIn judged readText digits opposite place literalAt isTrue decisions lowered cut watched next oneMore scanFrom scan pushFront without takeOut addChecks otherWatch moved scannedAction action onTrail withWatches withConflict counted perform visit readList propagateFrom firstCell watchAll fresh assignUnit assignUnits openRun decide backtrack decideRefusal backtrackRefusal refusal performCall step stepAll reference countAtLatest bytes counting positives reversed total
+unfolding any distinct times values upTo soundClause sound starts numbersOf clausesFrom rising wellFormed valueNumber levelNumber nodeOf watchLiteral firstNode behind headNumber linkNumber watchNumber encode levelBefore heldTrail heldCells chainFrom heldLists held hasReason isJustified isWatching isGuarded watchesHold isFixpoint isConflict isListed isValid passes callRefusal sessionBacktrackRefusal backtrackNumbers numbersAfter all keep flat empty member same begins literalWithin blank lineEnd extend split kept linesOf filled wordsOf decimal isDigit unsigned unsignedToken negativeToken tokenOf headed headerIn headerOf fault opened closed written notNumber overVariables wrongLength repeated surplus unfinished overLiterals faultsAt faultsFrom outside bodyOf faultsUnder faultsOf before earlier least onto clausesIn formulaUnder formulaIn judged readText digits opposite place literalAt isTrue decisions level lowered cut watched next oneMore scanFrom scan pushFront without takeOut addChecks otherWatch moved scannedAction action onTrail withWatches withConflict counted perform visit readList propagateFrom firstCell watchAll fresh assignUnit assignUnits openRun decide backtrack decideRefusal backtrackRefusal refusal performCall step stepAll reference countAtLatest bytes counting positives reversed total
 table =
     record {
       literals-255 = refl;
