@@ -39,6 +39,19 @@ nextRead handled run = opposite (literalAt (run .trail) (suc handled))
 abbrev pub readNext : Formula → ℕ → Run → Run
 readNext formula handled run = readList formula (nextRead handled run) (listOf (run .lists) (nextRead handled run)) run
 
+-- where propagation ends at once: in conflict, and where all is handled
+module _ (formula : Formula) where
+  pub propagate-stops : (fuel handled : ℕ) (run : Run) → inConflict run ≡ true → propagateFrom fuel formula handled run ≡ run
+  unfolding propagateFrom
+  propagate-stops zero handled run e = refl
+  propagate-stops (suc fuel) handled run e = rw e
+
+  pub propagate-done : (fuel handled : ℕ) (run : Run) → inConflict run ≡ false → length (run .trail) ≤ handled
+      → propagateFrom fuel formula handled run ≡ run
+  unfolding propagateFrom
+  propagate-done zero handled run e h = refl
+  propagate-done (suc fuel) handled run e h = rw (e, le-ltb handled (length (run .trail)) h)
+
 -- Propagating. While it goes on, `goes handled run` holds, and no trail is longer than `limit`; a reading gives the next, or ends it. With
 -- fuel for the limit it ends with all literals handled, or in a conflict; and any two such fuels give the same.
 module _ (formula : Formula) (goes : ℕ → Run → Type 0) (ends : Run → Type 0) (limit : ℕ)
@@ -47,17 +60,6 @@ module _ (formula : Formula) (goes : ℕ → Run → Type 0) (ends : Run → Typ
     (short : (handled : ℕ) (run : Run) → goes handled run → length (run .trail) ≤ limit)
     (reads : (handled : ℕ) (run : Run) → goes handled run → handled < length (run .trail)
     → goes (suc handled) (readNext formula handled run) ⊎ ends (readNext formula handled run)) where
-  propagate-stops : (fuel handled : ℕ) (run : Run) → inConflict run ≡ true → propagateFrom fuel formula handled run ≡ run
-  unfolding propagateFrom
-  propagate-stops zero handled run e = refl
-  propagate-stops (suc fuel) handled run e = rw e
-
-  propagate-done : (fuel handled : ℕ) (run : Run) → inConflict run ≡ false → length (run .trail) ≤ handled
-      → propagateFrom fuel formula handled run ≡ run
-  unfolding propagateFrom
-  propagate-done zero handled run e h = refl
-  propagate-done (suc fuel) handled run e h = rw (e, le-ltb handled (length (run .trail)) h)
-
   propagate-reads : (fuel handled : ℕ) (run : Run) → inConflict run ≡ false → ltb handled (length (run .trail)) ≡ true
       → propagateFrom (suc fuel) formula handled run ≡ propagateFrom fuel formula (suc handled) (readNext formula handled run)
   unfolding propagateFrom
@@ -69,9 +71,9 @@ module _ (formula : Formula) (goes : ℕ → Run → Type 0) (ends : Run → Typ
   spent fuel more handled run h (inl g) =
       let s = short handled run g in
       let d : length (run .trail) ≤ handled = omega arith in
-      propagate-done fuel handled run (quiet handled run g) d ∙ sym (propagate-done more handled run (quiet handled run g) d)
+      propagate-done formula fuel handled run (quiet handled run g) d ∙ sym (propagate-done formula more handled run (quiet handled run g) d)
   spent fuel more handled run h (inr e) =
-      propagate-stops fuel handled run (loud run e) ∙ sym (propagate-stops more handled run (loud run e))
+      propagate-stops formula fuel handled run (loud run e) ∙ sym (propagate-stops formula more handled run (loud run e))
 
   -- what propagating gives
   abbrev pub Propagated : Run → Type 0
@@ -84,8 +86,8 @@ module _ (formula : Formula) (goes : ℕ → Run → Type 0) (ends : Run → Typ
       go : goes handled run ⊎ ends run → Propagated (propagateFrom zero formula handled run)
       go (inl g) =
           let k = short handled run g in
-          rw (propagate-done zero handled run (quiet handled run g) (omega arith)) (inl (handled, g, omega arith))
-      go (inr e) = rw (propagate-stops zero handled run (loud run e)) (inr e)
+          rw (propagate-done formula zero handled run (quiet handled run g) (omega arith)) (inl (handled, g, omega arith))
+      go (inr e) = rw (propagate-stops formula zero handled run (loud run e)) (inr e)
   propagate-induction (suc fuel) handled run h state =
       go state (ltb handled (length (run .trail))) refl
       (λ k. propagate-induction fuel (suc handled) (readNext formula handled run) (omega arith) k)
@@ -99,8 +101,8 @@ module _ (formula : Formula) (goes : ℕ → Run → Type 0) (ends : Run → Typ
           (later (reads handled run g (ltb-true handled (length (run .trail)) e)))
       go (inl g) false e later =
           let k : length (run .trail) ≤ handled = ltb-false handled (length (run .trail)) e in
-          rw (propagate-done (suc fuel) handled run (quiet handled run g) k) (inl (handled, g, k))
-      go (inr end) b e later = rw (propagate-stops (suc fuel) handled run (loud run end)) (inr end)
+          rw (propagate-done formula (suc fuel) handled run (quiet handled run g) k) (inl (handled, g, k))
+      go (inr end) b e later = rw (propagate-stops formula (suc fuel) handled run (loud run end)) (inr end)
 
   pub enough-fuel : (fuel more handled : ℕ) (run : Run) → limit < fuel + handled → limit < more + handled → goes handled run ⊎ ends run
       → propagateFrom fuel formula handled run ≡ propagateFrom more formula handled run
@@ -121,7 +123,7 @@ module _ (formula : Formula) (goes : ℕ → Run → Type 0) (ends : Run → Typ
           ∙ sym (propagate-reads more handled run (quiet handled run g) e)
       go (inl g) false e later =
           let d : length (run .trail) ≤ handled = ltb-false handled (length (run .trail)) e in
-          propagate-done (suc fuel) handled run (quiet handled run g) d ∙ sym
-          (propagate-done (suc more) handled run (quiet handled run g) d)
+          propagate-done formula (suc fuel) handled run (quiet handled run g) d ∙ sym
+          (propagate-done formula (suc more) handled run (quiet handled run g) d)
       go (inr end) b e later =
-          propagate-stops (suc fuel) handled run (loud run end) ∙ sym (propagate-stops (suc more) handled run (loud run end))
+          propagate-stops formula (suc fuel) handled run (loud run end) ∙ sym (propagate-stops formula (suc more) handled run (loud run end))

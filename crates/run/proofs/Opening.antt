@@ -121,6 +121,15 @@ watch-all-times c (clause ∷ clauses) lists l d reach =
     let first = watch-one-times lists clause c l d (reach 0) in
     rest ∙ (omega arith)
 
+-- the watches of a clause, by its length
+pub first-big : (clause : List ℕ) → 2 ≤ length clause → firstCell clause ≡ record { first = 0; second = 1; pointer = 1 }
+unfolding firstCell
+first-big clause h = rw (le-leb 2 (length clause) h)
+
+pub first-small : (clause : List ℕ) → length clause < 2 → firstCell clause ≡ noCell
+unfolding firstCell
+first-small clause h = rw (lt-leb 2 (length clause) h)
+
 -- the opening's watches and lists
 module _ (formula : Formula) (s : sound formula ≡ true) where
   abbrev cells : List Cell
@@ -132,14 +141,6 @@ module _ (formula : Formula) (s : sound formula ≡ true) where
   cell-first : (c : ℕ) → cellAt cells c ≡ firstCell (clauseOf formula c)
   unfolding firstCell
   cell-first c = List·getD-map firstCell (formula .clauses) c []
-
-  first-big : (clause : List ℕ) → 2 ≤ length clause → firstCell clause ≡ record { first = 0; second = 1; pointer = 1 }
-  unfolding firstCell
-  first-big clause h = rw (le-leb 2 (length clause) h)
-
-  first-small : (clause : List ℕ) → length clause < 2 → firstCell clause ≡ noCell
-  unfolding firstCell
-  first-small clause h = rw (lt-leb 2 (length clause) h)
 
   lists-count : (l c : ℕ) → times c (listOf lists l) ≡ first-stands l (clauseOf formula c)
   unfolding times

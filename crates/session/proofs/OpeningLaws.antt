@@ -6,7 +6,7 @@ use mathlib.Core.Bool.{Bool, true, false, cond, not}
 use mathlib.Core.List.{List, [], _∷_, map}
 use mathlib.Core.Logic.{_⊎_, inl, inr, ⊎-elim}
 use mathlib.Core.Path.{_≡_, refl, sym, ap, ap₂, _∙_, subst}
-use borrow.Author.Tests.{le-leb, lt-leb, leb-true, leb-false, eq-eqb, ne-eqb}
+use borrow.Author.Tests.{le-leb, leb-true, leb-false, eq-eqb, ne-eqb}
 use lib.Dec.{leb, eqb}
 use lib.ListN.{length, getD, set, take, drop, replicate, length-set, length-take, length-drop, length-replicate, drop-of-length-le}
 use lib.Seq.{getD-set-same, getD-set-other, getD-take, getD-drop, drop-cons, drop-set-lt, take-all, ext-getD}
@@ -21,7 +21,7 @@ use Rattle.book.proofs.WellFormedLaws.{well-formed-parted, well-formed-sound, w
 use Rattle.run.specs.Trail.{place, literalAt, isTrue, isFalse, decisions, level}
 use Rattle.run.specs.Run.{Run, clauseOf, size, noCell, listOf, pushFront, onTrail, withConflict, inConflict, firstCell, watchAll, fresh, assignUnit, assignUnits, propagate, openRun}
 use Rattle.run.proofs.Clauses.{literal-within}
-use Rattle.run.proofs.Opening.{Opened, fresh-opened, unit-outcome, opening-state}
+use Rattle.run.proofs.Opening.{Opened, first-big, first-small, fresh-opened, unit-outcome, opening-state}
 use Rattle.run.proofs.Propagation.{quiet-out}
 use Rattle.session.specs.Layout.{trailAt, levelsAt, valuesAt, headsAt, watchesAt, pointersAt, checksAt, requiredLength, cellAt, valueNumber, levelNumber}
 use Rattle.session.specs.Inner.Encodes.{headSlot, linkSlot, WatchesHeld, Encodes}
@@ -111,14 +111,6 @@ no-cell clauses zero d h = refl
 no-cell [] (suc n) d h = refl
 no-cell (clause ∷ clauses) (suc n) zero h = absurd (omega arith)
 no-cell (clause ∷ clauses) (suc n) (suc d) h = no-cell clauses n d (omega arith)
-
-first-big : (clause : List ℕ) → 2 ≤ length clause → firstCell clause ≡ record { first = 0; second = 1; pointer = 1 }
-unfolding firstCell
-first-big clause h = rw (le-leb 2 (length clause) h)
-
-first-small : (clause : List ℕ) → length clause < 2 → firstCell clause ≡ noCell
-unfolding firstCell
-first-small clause h = rw (lt-leb 2 (length clause) h)
 
 -- another clause has the same watches when clause c has its first ones
 first-others : (clauses : List (List ℕ)) (c d : ℕ) → (d ≡ c → ⊥)

@@ -6,7 +6,7 @@ use mathlib.Core.Bool.{true, not}
 use mathlib.Core.List.{List, [], _∷_, _++_}
 use mathlib.Core.Logic.{inl, ⊎-elim}
 use mathlib.Core.Path.{_≡_, refl, sym, ap, _∙_, subst}
-use borrow.Author.Tests.{ne-eqb, lt-ltb, le-ltb}
+use borrow.Author.Tests.{ne-eqb, lt-ltb}
 use lib.ListN.{length, getD, length-append}
 use lib.Seq.{getD-set-other, append-snoc}
 use Rattle.base.specs.Lists.{times}
@@ -24,7 +24,7 @@ use Rattle.run.proofs.Clauses.{clause-exists}
 use Rattle.book.proofs.SoundLaws.{literal-parts}
 use Rattle.run.proofs.ScanLaws.{scan-found, pointer-within}
 use Rattle.run.proofs.WatchLists.{Watched, listed-once, listed-size}
-use Rattle.run.proofs.Inductions.{nextRead, readNext}
+use Rattle.run.proofs.Inductions.{nextRead, readNext, propagate-stops, propagate-done}
 use Rattle.run.proofs.Propagation.{Going, Ended, Reading, quiet-out}
 use Rattle.run.proofs.Visits.{Case, staying, moving, implying, conflicting, action-case, Seen, seen, visit-outcome}
 use Rattle.run.proofs.Validity.{reading-begins, reading-ends, trail-short, fuel-enough}
@@ -85,15 +85,6 @@ nodes-stay formula q c run (d ∷ unread) z =
     other e = let twice : times c (d ∷ unread) ≡ suc (times c unread) = rw e (times-same c unread) in omega arith
 
 -- Propagating, one step at a time.
-propagate-stops : (formula : Formula) (handled : ℕ) (run : Run) → inConflict run ≡ true → propagate formula handled run ≡ run
-unfolding propagateFrom
-propagate-stops formula handled run e = rw e
-
-propagate-done : (formula : Formula) (handled : ℕ) (run : Run) → run .conflict ≡ 0 → length (run .trail) ≤ handled
-    → propagate formula handled run ≡ run
-unfolding propagateFrom
-propagate-done formula handled run e h = rw (quiet-out run e, le-ltb handled (length (run .trail)) h)
-
 propagate-next : (formula : Formula) → sound formula ≡ true → (handled : ℕ) (run : Run) → Going formula handled run
     → handled < length (run .trail)
     → propagate formula handled run ≡ propagate formula (suc handled) (readNext formula handled run)
@@ -177,7 +168,7 @@ module _ (book : List ℕ) where
   pub propagating-stands : {numbers : List ℕ} {handled : ℕ} → (getD numbers 2 0 ≡ 0 → ⊥) → (at : Propagating book numbers handled)
       → Becomes book numbers numbers (propagate formula handled (at .run))
   propagating-stands {numbers} {handled} n at =
-      rw (propagate-stops formula handled (at .run) (rw (ne-eqb (at .run .conflict) 0 (λ z. n (at .encodes .conflict ∙ z)))))
+      rw (propagate-stops formula (suc (formula .variables)) handled (at .run) (rw (ne-eqb (at .run .conflict) 0 (λ z. n (at .encodes .conflict ∙ z)))))
       (becomes-self (at .encodes))
 
   -- nothing is left
@@ -185,7 +176,7 @@ module _ (book : List ℕ) where
       → getD numbers 0 0 ≤ i → Becomes book before numbers (propagate formula handled first)
   propagating-ends {before} {numbers} {handled} {i} {first} s h =
       let all : length (s .run .trail) ≤ i = omega (arith, s .becomes .encodes .trail .count) in
-      rw (sym (s .rest), propagate-done formula i (s .run) (s .going .quiet) all) (s .becomes)
+      rw (sym (s .rest), propagate-done formula (suc (formula .variables)) i (s .run) (quiet-out (s .run) (s .going .quiet)) all) (s .becomes)
 
   -- a literal is left
   abbrev pub propagating-next : {before numbers : List ℕ} {handled i : ℕ} {first : Run} → wellFormed book ≡ true
@@ -430,6 +421,6 @@ module _ (book : List ℕ) where
       rw (
         sym (s .rest),
         propagate-next formula (well-formed-sound book w) i (s .run) (s .going) (omega (arith, s .becomes .encodes .trail .count)),
-        propagate-stops formula (suc i) (readNext formula i (s .run)) loud,
+        propagate-stops formula (suc (formula .variables)) (suc i) (readNext formula i (s .run)) loud,
       )
       (becomes-after (s .becomes) b)
