@@ -3,6 +3,7 @@ use Prim.Native.Nat.{ℕ, zero, suc, _+_}
 use mathlib.Core.Bool.{Bool, true, false, cond, not, _&&_, _||_}
 use mathlib.Core.List.{List, [], _∷_, _++_}
 use lib.Dec.{eqb}
+use lib.ListN.{length, take, drop}
 
 module _ {A : Type 0} where
   -- the test holds of every element
@@ -74,3 +75,7 @@ upTo (suc n) test = upTo n test && test n
 unfoldable pub sum : List ℕ → ℕ
 sum [] = 0
 sum (x ∷ xs) = x + sum xs
+
+-- what fits is copied to the front, and what lies behind stays
+unfoldable pub copied : List ℕ → List ℕ → List ℕ
+copied source buffer = take (length buffer) source ++ drop (length source) buffer

@@ -14,7 +14,7 @@ use Rattle.base.specs.Lists.{all, begins}
 use Rattle.base.proofs.Bools.{and-parts}
 use Rattle.base.proofs.Lists.{begins-at}
 use Rattle.book.specs.Text.{decimal, isDigit, unsigned, literal, close, invalid, negativeToken, unsignedToken, tokenOf}
-use Rattle.book.specs.Inner.Steps.{digitsOf}
+use Rattle.book.specs.Answer.{digitsOf}
 use Rattle.book.specs.declared.bytes.Digits.the-variants.{Value, Invalid}
 
 pub digit-true : (b : ℕ) → 48 ≤ b → b ≤ 57 → isDigit b ≡ true

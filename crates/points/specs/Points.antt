@@ -1,12 +1,10 @@
 -- The marked points of document 01 on text and run, as one table of equations that the definitions compute.
 use Prim.Native.Nat.{ℕ, zero, suc, _+_, _-_}
-use Prim.Native.Char.{code}
-use Prim.Native.String.{String, [] as ends, _∷_ as _then_}
 use mathlib.Core.Path.{_≡_, refl}
 use mathlib.Core.Bool.{true, false}
 use mathlib.Core.List.{List, [], _∷_, _++_}
 use lib.ListN.{length, take}
-use Rattle.base.specs.Lists.{all, any, keep, flat, empty, member, distinct, same, begins, times, table as values, upTo}
+use Rattle.base.specs.Lists.{all, any, keep, flat, empty, member, distinct, same, begins, times, table as values, upTo, sum}
 use Rattle.book.specs.Formula.{Formula, positive, negative, literalWithin, soundClause, sound}
 use Rattle.book.specs.Numbers.{starts, numbersOf, clausesFrom, rising, wellFormed}
 use Rattle.book.specs.Text.{blank, lineEnd, extend, split, kept, linesOf, filled, wordsOf, decimal, isDigit, unsigned, unsignedToken, negativeToken, tokenOf, headed, headerIn, headerOf}
@@ -15,17 +13,15 @@ use Rattle.book.specs.Reading.{before, earlier, least, onto, clausesIn, formula
 use Rattle.book.specs.Printer.{digits, printNumber}
 use Rattle.run.specs.Trail.{Entry, opposite, place, literalAt, isTrue, decisions, level, lowered, cut}
 use Rattle.run.specs.Scan.{Cell, watched, next, oneMore, scanFrom, scan}
-use Rattle.run.specs.Run.{Run, size, cellOf, listOf, pushFront, without, takeOut, addChecks, otherWatch, moved, scannedAction, action, onTrail, withWatches, withConflict, counted, perform, visit, readList, propagateFrom, firstCell, watchAll, fresh, assignUnit, assignUnits, openRun, decide, backtrack}
+use Rattle.run.specs.Run.{Run, trailBehind, size, cellOf, listOf, pushFront, without, takeOut, addChecks, otherWatch, moved, scannedAction, action, onTrail, withWatches, withConflict, counted, perform, visit, readList, propagateFrom, firstCell, watchAll, fresh, assignUnit, assignUnits, openRun, decide, backtrack}
 use Rattle.run.specs.Calls.{Call, decision, backtrackBy, decideRefusal, backtrackRefusal, refusal, perform as performCall, step, stepAll, reference}
 use Rattle.session.specs.Layout.{valueNumber, levelNumber, nodeOf, watchLiteral, firstNode, behind, headNumber, linkNumber, watchNumber, encode, levelBefore, heldTrail, heldCells, chainFrom, heldLists, held}
 use Rattle.session.specs.Validation.{hasReason, isJustified, isWatching, isGuarded, watchesHold, isFixpoint, isConflict, isListed, isValid, passes}
 use Rattle.session.specs.Outcomes.{callRefusal, sessionBacktrackRefusal, backtrackNumbers, after as numbersAfter}
+use Rattle.script.specs.Script.{scriptLines, numbered, backOf, lineOf}
+use Rattle.script.specs.Answers.{bytes, signed, listed, callWords, forcedLine, ruleLine, backLine, refusedLine, endLine}
+use Rattle.script.specs.Desk.{propagatedLine, unlessRefused, answerTo, stepOf, answersTo, outputFor, deskOutput}
 use Rattle.run.specs.Ceiling.{checksOf, countBefore, countAtLatest, ceiling}
-
--- a quoted text as bytes
-unfoldable pub bytes : String → List ℕ
-bytes ends = []
-bytes (c then s) = code c ∷ bytes s
 
 -- n numbers from one on as text, each followed by a blank, and a 0; and as literals
 unfoldable pub counting : ℕ → ℕ → List ℕ
@@ -46,7 +42,7 @@ long n = record { variables = 500; clauses = positives 1 n ∷ [] }
 abbrev pub noClauses : ℕ → Formula
 noClauses variables = record { variables = variables; clauses = [] }
 
--- trail entries, a trail from its oldest literal on, the sum of counts
+-- trail entries, a trail from its oldest literal on
 abbrev pub decided : ℕ → Entry
 decided l = record { literal = l; decided = true }
 
@@ -59,10 +55,6 @@ reversed done (e ∷ trail) = reversed (e ∷ done) trail
 
 abbrev pub trailOf : Run → List Entry
 trailOf run = reversed [] (run .trail)
-
-unfoldable pub total : List ℕ → ℕ
-total [] = 0
-total (n ∷ ns) = n + total ns
 
 -- the clauses `1` and `-1`
 abbrev pub opposed : Formula
@@ -159,13 +151,17 @@ pub record Table : Type 0 where
   pub listing-2 : trailOf (after 2) ≡ decided (negative 1) ∷ decided (negative 2) ∷ implied (positive 3) ∷ implied (positive 4) ∷ []
   pub listing-3 : trailOf (after 3) ≡ decided (negative 1) ∷ []
   pub listing-4 : trailOf (after 4) ≡ decided (negative 1) ∷ decided (negative 3) ∷ implied (positive 2) ∷ implied (negative 4) ∷ []
+  -- The whole output of the program on the listing.
+  pub listing-output :
+      deskOutput (bytes "p cnf 4 3\n1 2 3 0\n-3 4 0\n-4 -2 1 0\n") (bytes "-1\n-2\nb 1\n-3\n1\nb 3\n")
+      ≡ bytes "open forced 0:\nchoose -1 forced 0:\nchoose -2 forced 2: 3 4\nback 1\nchoose -3 forced 2: 2 -4\nrefused 15\nrefused 16\nend choices 2 backs 1 checks 4\n"
   -- `refused 15`, `refused 16`; `end choices 2 backs 1 checks 4`.
   pub listing-5 : refusal listing (decision (positive 1)) (after 4) ≡ 15
   pub listing-6 : refusal listing (backtrackBy 3) (after 5) ≡ 16
   pub end-conflict : after 6 .conflict ≡ 0
   pub end-decisions : length (decisions (after 6 .trail)) ≡ 2
   pub end-backtracks : after 6 .backtracks ≡ 1
-  pub end-checks : total (after 6 .checks) ≡ 4
+  pub end-checks : sum (after 6 .checks) ≡ 4
   -- Rule 1 above has 2 checks before `b 1` and 1 after; its ceiling is 3 each time.
   pub clause-1-before : checksOf (after 2) 0 - countBefore listing 0 (take 2 calls) ≡ 2
   pub clause-1-after : checksOf (after 6) 0 - countBefore listing 0 calls ≡ 1
@@ -199,7 +195,7 @@ pub record Table : Type 0 where
   pub conflict-ends-named : reference torn (decision (negative 1) ∷ []) .conflict ≡ 2
 
 pub table : Table
-unfolding any distinct times values upTo soundClause sound starts numbersOf clausesFrom rising wellFormed valueNumber levelNumber nodeOf watchLiteral firstNode behind headNumber linkNumber watchNumber encode levelBefore heldTrail heldCells chainFrom heldLists held hasReason isJustified isWatching isGuarded watchesHold isFixpoint isConflict isListed isValid passes callRefusal sessionBacktrackRefusal backtrackNumbers numbersAfter all keep flat empty member same begins literalWithin blank lineEnd extend split kept linesOf filled wordsOf decimal isDigit unsigned unsignedToken negativeToken tokenOf headed headerIn headerOf fault opened closed written notNumber overVariables wrongLength repeated surplus unfinished overLiterals faultsAt faultsFrom outside bodyOf faultsUnder faultsOf before earlier least onto clausesIn formulaUnder formulaIn judged readText digits opposite place literalAt isTrue decisions level lowered cut watched next oneMore scanFrom scan pushFront without takeOut addChecks otherWatch moved scannedAction action onTrail withWatches withConflict counted perform visit readList propagateFrom firstCell watchAll fresh assignUnit assignUnits openRun decide backtrack decideRefusal backtrackRefusal refusal performCall step stepAll reference countAtLatest bytes counting positives reversed total
+unfolding scriptLines numbered backOf lineOf signed listed callWords forcedLine ruleLine backLine refusedLine endLine propagatedLine unlessRefused answerTo stepOf answersTo outputFor deskOutput trailBehind sum any distinct times values upTo soundClause sound starts numbersOf clausesFrom rising wellFormed valueNumber levelNumber nodeOf watchLiteral firstNode behind headNumber linkNumber watchNumber encode levelBefore heldTrail heldCells chainFrom heldLists held hasReason isJustified isWatching isGuarded watchesHold isFixpoint isConflict isListed isValid passes callRefusal sessionBacktrackRefusal backtrackNumbers numbersAfter all keep flat empty member same begins literalWithin blank lineEnd extend split kept linesOf filled wordsOf decimal isDigit unsigned unsignedToken negativeToken tokenOf headed headerIn headerOf fault opened closed written notNumber overVariables wrongLength repeated surplus unfinished overLiterals faultsAt faultsFrom outside bodyOf faultsUnder faultsOf before earlier least onto clausesIn formulaUnder formulaIn judged readText digits opposite place literalAt isTrue decisions level lowered cut watched next oneMore scanFrom scan pushFront without takeOut addChecks otherWatch moved scannedAction action onTrail withWatches withConflict counted perform visit readList propagateFrom firstCell watchAll fresh assignUnit assignUnits openRun decide backtrack decideRefusal backtrackRefusal refusal performCall step stepAll reference countAtLatest bytes counting positives reversed
 table =
     record {
       literals-255 = refl;
@@ -221,6 +217,7 @@ table =
       listing-2 = refl;
       listing-3 = refl;
       listing-4 = refl;
+      listing-output = refl;
       listing-5 = refl;
       listing-6 = refl;
       end-conflict = refl;

@@ -4,8 +4,8 @@ use mathlib.Core.Bool.{Bool, true, false, cond, not}
 use mathlib.Core.List.{List, [], _∷_, map}
 use mathlib.Core.Option.{none, some}
 use lib.Dec.{leb, ltb, eqb}
-use lib.ListN.{length, getD, set, replicate}
-use Rattle.base.specs.Lists.{keep}
+use lib.ListN.{length, getD, set, drop, replicate}
+use Rattle.base.specs.Lists.{keep, table}
 use Rattle.book.specs.Formula.{Formula}
 use Rattle.run.specs.Trail.{Entry, opposite, isTrue, isFalse, literalAt, cut}
 use Rattle.run.specs.Scan.{Cell, Scanned, scan}
@@ -142,6 +142,10 @@ visit formula q c run = perform formula q c (action (run .trail) (clauseOf formu
 
 abbrev pub inConflict : Run → Bool
 inConflict run = not (eqb (run .conflict) 0)
+
+-- the trail's literals in trail order, behind the first so many
+unfoldable pub trailBehind : ℕ → Run → List ℕ
+trailBehind before run = drop before (table (length (run .trail)) (λ (i : ℕ). literalAt (run .trail) (suc i)))
 
 -- Propagation: the watch list of q, as it stood when its reading began, front to back; a conflict ends it.
 unfoldable pub readList : Formula → ℕ → List ℕ → Run → Run

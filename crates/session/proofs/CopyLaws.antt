@@ -9,10 +9,10 @@ use borrow.Author.Tests.{eq-eqb, ne-eqb}
 use lib.Dec.{eqb}
 use lib.ListN.{length, getD, take, drop, length-drop, drop-of-length-le}
 use lib.Seq.{drop-cons, take-all}
-use Rattle.base.specs.Lists.{sum}
+use Rattle.base.specs.Lists.{sum, copied}
 use Rattle.base.proofs.Copies.{Copied}
 use Rattle.run.specs.Calls.{Call, decision, backtrackBy}
-use Rattle.session.specs.Outcomes.{copied, callsOf, decideNumbers, backtrackNumbers, callNumbers, playedNumbers}
+use Rattle.session.specs.Outcomes.{callsOf, decideNumbers, backtrackNumbers, callNumbers, playedNumbers}
 
 -- the sum of the first i numbers, and of all
 pub record Summed (numbers : List ℕ) (s i : ℕ) : Type 0 where

@@ -10,14 +10,14 @@ use borrow.Author.Tests.{eq-eqb, ne-eqb, eqb-true, eqb-false, le-leb, lt-leb, le
 use lib.Dec.{leb, ltb, eqb}
 use lib.ListN.{length, getD, take, drop, take-append-drop, length-take, length-drop, length-append, drop-of-length-le}
 use lib.Seq.{ext-getD, getD-take, getD-drop, drop-drop, take-nil}
-use Rattle.base.specs.Lists.{table, sum}
+use Rattle.base.specs.Lists.{table, sum, copied}
 use Rattle.base.proofs.Bools.{and-parts}
 use Rattle.book.specs.Formula.{Formula, variableOf, literalWithin, sound}
 use Rattle.book.specs.Numbers.{wellFormed, formulaOf, variablesOf, clausesOf}
 use Rattle.book.proofs.PartLaws.{length-clauses}
 use Rattle.book.proofs.WellFormedLaws.{well-formed-sound, well-formed-limited}
 use Rattle.run.specs.Trail.{Entry, opposite, literalAt, isTrue, isFalse, isAssigned, decisions}
-use Rattle.run.specs.Run.{Run, inConflict, openRun, decide, backtrack}
+use Rattle.run.specs.Run.{Run, trailBehind, inConflict, openRun, decide, backtrack}
 use Rattle.run.specs.Calls.{Call, decideRefusal, backtrackRefusal, maxBacktracks, reference}
 use Rattle.run.specs.Valid.{Valid}
 use Rattle.run.proofs.Propagation.{valid-structure}
@@ -26,7 +26,7 @@ use Rattle.run.proofs.Theorems.{open-valid, decide-valid, backtrack-valid, deci
 use Rattle.session.specs.Layout.{required, requiredLength, valuesAt, checksAt, encode, held}
 use Rattle.session.specs.Validation.{passes}
 use Rattle.session.specs.Outcomes
-use Rattle.session.specs.Outcomes.{after, propagatedAnswer, requiredAnswer, openRefusal, openAnswer, openNumbers, callRefusal, decisionRefusal, decideAnswer, decideNumbers, sessionBacktrackRefusal, backtrackAnswer, backtrackNumbers, lookupRefusal, lookupAnswer, assignedIn, readRefusal, figuresAnswer, figuresOf, totalAnswer, copied, copyAnswer, copyNumbers, trailBehind, checksOfRun, replayAnswer, replayNumbers, playedNumbers}
+use Rattle.session.specs.Outcomes.{after, propagatedAnswer, requiredAnswer, openRefusal, openAnswer, openNumbers, callRefusal, decisionRefusal, decideAnswer, decideNumbers, sessionBacktrackRefusal, backtrackAnswer, backtrackNumbers, lookupRefusal, lookupAnswer, assignedIn, readRefusal, figuresAnswer, figuresOf, totalAnswer, copyAnswer, copyNumbers, checksOfRun, replayAnswer, replayNumbers, playedNumbers}
 use Rattle.session.specs.Inner.Encodes.{TrailHeld, Encodes}
 use Rattle.session.specs.Inner.Stores.{valueRead, valueIn, Reads}
 use Rattle.session.specs.Inner.Engine.{SameBehind, Becomes, Holding}

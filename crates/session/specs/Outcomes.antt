@@ -3,11 +3,11 @@ use Prim.Native.Nat.{ℕ, suc, _-_, _*_, _+_}
 use mathlib.Core.Bool.{Bool, cond, _&&_}
 use mathlib.Core.List.{List, [], _∷_, _++_}
 use lib.Dec.{leb, ltb, eqb}
-use lib.ListN.{length, take, drop}
-use Rattle.base.specs.Lists.{table, sum}
+use lib.ListN.{length, drop}
+use Rattle.base.specs.Lists.{sum, copied}
 use Rattle.book.specs.Formula.{Formula, positive, negative}
 use Rattle.book.specs.Numbers.{wellFormed, formulaOf}
-use Rattle.run.specs.Trail.{Entry, literalAt, isTrue, decisions}
+use Rattle.run.specs.Trail.{Entry, isTrue, decisions}
 use Rattle.run.specs.Run.{Run, inConflict, openRun, decide, backtrack}
 use Rattle.run.specs.Calls.{Call, decision, backtrackBy, decideRefusal, backtrackRefusal, reference}
 use Rattle.session.specs.Layout.{requiredLength, encode, held}
@@ -115,9 +115,6 @@ figuresAnswer book session =
     cond (eqb (readRefusal book session) 0) (figuresOf (held (formulaOf book) session)) (shown.Refused (readRefusal book session))
 
 -- Copies: what fits is copied, what lies behind stays, and the answer says how many there are.
-unfoldable pub copied : List ℕ → List ℕ → List ℕ
-copied source buffer = take (length buffer) source ++ drop (length source) buffer
-
 unfoldable pub copyAnswer : List ℕ → List ℕ → (Run → List ℕ) → Count
 copyAnswer book session part =
     cond (eqb (readRefusal book session) 0)
@@ -127,10 +124,6 @@ copyAnswer book session part =
 unfoldable pub copyNumbers : List ℕ → List ℕ → (Run → List ℕ) → List ℕ → List ℕ
 copyNumbers book session part buffer =
     cond (eqb (readRefusal book session) 0) (copied (part (held (formulaOf book) session)) buffer) buffer
-
--- the trail's literals in trail order, behind the first so many
-unfoldable pub trailBehind : ℕ → Run → List ℕ
-trailBehind before run = drop before (table (length (run .trail)) (λ (i : ℕ). literalAt (run .trail) (suc i)))
 
 abbrev pub checksOfRun : Run → List ℕ
 checksOfRun run = run .checks

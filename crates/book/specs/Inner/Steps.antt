@@ -5,20 +5,15 @@ use mathlib.Core.Bool.{true, false, cond}
 use mathlib.Core.List.{List, [], _∷_, map}
 use lib.ListN.{length, getD, take, drop}
 use Rattle.base.specs.Lists.{begins}
-use Rattle.book.specs.Text.{Piece, Token, literal, close, invalid, blank, unsigned, decimal}
+use Rattle.book.specs.Text.{Piece, Token, literal, close, invalid, blank}
 use Rattle.book.specs.Inner.Words.{wordsHere, wordsStart, wordsLine, wordsBehind}
 use Rattle.book.specs.Inner.Walk.{tokensOf, walkStart}
-use Rattle.book.specs.declared.bytes.Digits.{Digits}
-use Rattle.book.specs.declared.bytes.Digits.the-variants.{Value, Invalid}
 use Rattle.book.specs.declared.bytes.Word.{Word}
 use Rattle.book.specs.declared.bytes.Word.the-variants as w
 use Rattle.book.specs.declared.cursor.Step.{Step}
 use Rattle.book.specs.declared.cursor.Step.the-variants as s
 use Rattle.book.specs.declared.cursor.LineWord.{LineWord}
 use Rattle.book.specs.declared.cursor.LineWord.the-variants as l
-
-abbrev pub digitsOf : List ℕ → Digits
-digitsOf word = cond (unsigned word) (Value (decimal 0 word)) Invalid
 
 abbrev pub tokenIn : Word → Token
 tokenIn (w.Literal l) = literal l

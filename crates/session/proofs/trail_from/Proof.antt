@@ -5,7 +5,7 @@ use native.Mathlib.Omega.{arith}
 use borrow.Author.Needs.{needs}
 use borrow.Author.Tests.{not-true, not-false}
 use Rattle.session.proofs.PublicLaws.{copy-refused, copy-is, trail-behind, trail-none, long, count-is, count-within, trail-room}
-use Rattle.session.specs.Outcomes.{trailBehind}
+use Rattle.run.specs.Run.{trailBehind}
 use lib.ListN.{length, length-take, length-drop}
 use borrow.Author.Needs.{needs}
 use Rattle.session.proofs.trail_from.Statement.{statement}

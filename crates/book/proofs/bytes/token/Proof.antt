@@ -6,7 +6,7 @@ use Prim.Native.Nat.{ℕ}
 use native.Mathlib.Omega.{arith}
 use lib.ListN.{length, take, drop, length-drop}
 use lib.Seq.{take-all}
-use Rattle.book.specs.Inner.Steps.{digitsOf}
+use Rattle.book.specs.Answer.{digitsOf}
 use Rattle.book.specs.declared.bytes.Digits.{Digits}
 use Rattle.book.proofs.DecimalLaws.{value-below, token-signed, token-unsigned, token-empty, not-digits, zero-digits, some-digits}
 use borrow.Author.Needs.{needs}

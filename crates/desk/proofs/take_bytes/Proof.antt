@@ -1,0 +1,69 @@
+-- `take_bytes` is safe and ends: the bytes before i are taken. Assumes nothing.
+use Prim.Native.Nat.{_-_, _≤_}
+use mathlib.Core.Path.{_≡_, refl}
+use native.Mathlib.Omega.{arith}
+use borrow.Author.Needs.{needs}
+use lib.ListN.{length}
+use Rattle.desk.proofs.take_bytes.Statement.{statement}
+use Rattle.desk.proofs.take_bytes.Tie as tie
+use Rattle.desk.proofs.take_bytes.Reads as reads
+use Rattle.desk.proofs.take_bytes.Lts as lts
+use Rattle.desk.proofs.take_byte.Reads as take-byte-reads
+
+abbrev Inv-loop : tie.InvT-loop
+Inv-loop book session₀ line₀ kept bytes end₀ i₀ session line end i = (i ≤ length bytes) × (length session ≡ length session₀) × (length line ≡ length line₀)
+
+abbrev μ-loop : tie.MeasureT-loop
+μ-loop book session₀ line₀ kept bytes end₀ i₀ session line end i = length bytes - i
+
+-- src/main.rt:111:5
+loop-holds : tie.Need-loop-holds Inv-loop μ-loop
+loop-holds c = (omega arith, refl, refl)
+
+-- src/main.rt:112:51
+shared-slice-read-take-byte : tie.Need-shared-slice-read-take-byte Inv-loop μ-loop
+shared-slice-read-take-byte c = search needs
+
+-- src/main.rt:112:9
+take-byte-requires : tie.Need-take-byte-requires Inv-loop μ-loop
+take-byte-requires c κs = search needs
+
+-- src/main.rt:113:9
+add-i : tie.Need-add-i Inv-loop μ-loop
+add-i c = search needs
+
+-- src/main.rt:111:5
+loop-less : tie.Need-loop-less Inv-loop μ-loop
+loop-less c = search needs
+
+-- src/main.rt:111:5
+loop-again : tie.Need-loop-again Inv-loop μ-loop
+loop-again c = search needs
+
+-- src/main.rt:108:1
+same-length : tie.Need-same-length Inv-loop μ-loop
+same-length c = search needs
+
+-- src/main.rt:108:1
+same-length-2 : tie.Need-same-length-2 Inv-loop μ-loop
+same-length-2 c = search needs
+
+-- src/main.rt:108:1
+returns : tie.Need-returns Inv-loop μ-loop
+returns c = search needs
+
+pub take-bytes-spec : {M : Type 1} → statement M
+take-bytes-spec =
+    tie.close
+    (tie.spec
+    Inv-loop
+    μ-loop
+    loop-holds
+    shared-slice-read-take-byte
+    take-byte-requires
+    add-i
+    loop-less
+    loop-again
+    same-length
+    same-length-2
+    returns)

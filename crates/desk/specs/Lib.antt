@@ -1,0 +1,2 @@
+-- What the functions of `desk` promise.
+pub mod Answering

@@ -1,0 +1,214 @@
+// Reads the rule book `tariff.cnf`, then a script from standard input, and prints an answer to each line.
+ghost use mathlib.Core.Path.{_≡_};
+ghost use Rattle.desk.specs.Answering.{Counted, Forced, Propagated, Answers, Finishes};
+use libc::STDIN_FILENO;
+use libc::STDOUT_FILENO;
+
+fn wide(x: u32) -> usize
+    ensures { λ r. ⌜ r ≡ x ⌝ }
+{
+    x as usize
+}
+
+// Prints the first `n` bytes.
+fn print(bytes: &[u8], n: usize) {
+    if n <= bytes.len() {
+        io::write_all(STDOUT_FILENO, &bytes[..n]);
+    }
+}
+
+// The text of the rule book, as much as tells that it is over 60,000 bytes; no file is an empty text.
+fn read_text(text: &mut [u8]) -> usize {
+    let file = os::open_read(b"tariff.cnf");
+    if file < 0 {
+        return 0;
+    }
+    let n = io::read_full(file, text);
+    libc::close(file);
+    n
+}
+
+// How many literals are on the trail.
+fn trail_length(book: &[u32], session: &[u32]) -> u32
+    ensures { λ r. ⌜ Counted (now (book .entry)) (now (session .entry)) r ⌝ }
+{
+    match session::figures(book, session) {
+        session::Shown::Refused(_) => 0,
+        session::Shown::Of {
+            decisions: _,
+            backtracks: _,
+            trail,
+            conflict: _,
+        } => trail,
+    }
+}
+
+// The line of a call that implied so many literals: the last ones on the trail.
+fn forced(
+    book: &[u32],
+    session: &[u32],
+    cause: script::Cause,
+    implied: u32,
+    out: &mut [u8],
+) -> usize
+    ensures { λ r. ⌜ Forced (now (book .entry)) (now (session .entry)) cause implied (now (out .entry)) (now (out .exit)) r ⌝ }
+{
+    let mut literals = [0u32; 500];
+    let trail = trail_length(book, session);
+    let n = wide(implied);
+    if trail < implied {
+        return 0;
+    }
+    if 500 < n {
+        return 0;
+    }
+    session::trail_from(book, session, trail - implied, &mut literals);
+    script::write_forced(cause, &literals[..n], out)
+}
+
+// The line of an opening or a decision.
+fn propagated(
+    book: &[u32],
+    session: &[u32],
+    cause: script::Cause,
+    answer: session::Answer,
+    out: &mut [u8],
+) -> usize
+    ensures { λ r. ⌜ Propagated (now (book .entry)) (now (session .entry)) cause answer (now (out .entry)) (now (out .exit)) r ⌝ }
+{
+    match answer {
+        session::Answer::Implied(implied) => forced(book, session, cause, implied, out),
+        session::Answer::Conflict(clause) => script::write_rule(cause, clause, out),
+        session::Answer::Refused(refusal) => script::write_refused(refusal, out),
+    }
+}
+
+// Makes the call that a line asks for, and writes its answer.
+fn answer(book: &[u32], session: &mut [u32], line: &[u8], out: &mut [u8]) -> usize
+    ensures { λ r. ⌜ Answers (now (book .entry)) (now (session .entry)) (now (session .exit)) (now (line .entry)) (now (out .entry)) (now (out .exit)) r ⌝ }
+{
+    match script::parse_line(line) {
+        script::Line::Malformed => script::write_refused(18, out),
+        script::Line::Choose(literal) => {
+            let made = session::decide(book, session, literal);
+            propagated(book, session, script::Cause::Choice(literal), made, out)
+        }
+        script::Line::Back(k) => match session::backtrack(book, session, k) {
+            session::Back::Done => script::write_back(k, out),
+            session::Back::Refused(refusal) => script::write_refused(refusal, out),
+        },
+    }
+}
+
+// Takes one byte of the script: a byte 10 has the line answered. A line of which 12 bytes are kept is malformed, whatever follows.
+fn take_byte(book: &[u32], session: &mut [u32], line: &mut [u8], kept: usize, byte: u8) -> usize {
+    if byte == 10 {
+        let mut out = [0u8; 4096];
+        if kept <= line.len() {
+            let n = answer(book, session, &line[..kept], &mut out);
+            print(&out, n);
+        }
+        return 0;
+    }
+    if kept < line.len() {
+        line[kept] = byte;
+        return kept + 1;
+    }
+    kept
+}
+
+fn take_bytes(
+    book: &[u32],
+    session: &mut [u32],
+    line: &mut [u8],
+    kept: usize,
+    bytes: &[u8],
+) -> usize {
+    let mut end = kept;
+    let mut i = 0;
+    while i < bytes.len() {
+        end = take_byte(book, session, line, end, bytes[i]);
+        i += 1;
+    }
+    end
+}
+
+// Reads once and takes what came; 13 is the end of the script.
+fn take_some(book: &[u32], session: &mut [u32], line: &mut [u8], kept: usize) -> usize {
+    let mut bytes = io::buffer();
+    let got = libc::read(STDIN_FILENO, &mut bytes);
+    if got <= 0 {
+        return 13;
+    }
+    let n = io::count(got, &bytes);
+    take_bytes(book, session, line, kept, &bytes[..n])
+}
+
+// Answers the lines of the script. A proved loop has to end, so it counts its turns down, from a number that no run uses up.
+fn answer_all(book: &[u32], session: &mut [u32]) {
+    let mut line = [0u8; 12];
+    let mut kept: usize = 0;
+    let mut turns = u64::MAX;
+    while turns > 0 {
+        let next = take_some(book, session, &mut line, kept);
+        if 12 < next {
+            turns = 0;
+        } else {
+            kept = next;
+            turns -= 1;
+        }
+    }
+    if 0 < kept {
+        take_byte(book, session, &mut line, kept, 10);
+    }
+}
+
+// The last line.
+fn finish(book: &[u32], session: &[u32], out: &mut [u8]) -> usize
+    ensures { λ r. ⌜ Finishes (now (book .entry)) (now (session .entry)) (now (out .entry)) (now (out .exit)) r ⌝ }
+{
+    match session::total(book, session) {
+        session::Sum::Refused(refusal) => script::write_refused(refusal, out),
+        session::Sum::Checks(checks) => match session::figures(book, session) {
+            session::Shown::Refused(refusal) => script::write_refused(refusal, out),
+            session::Shown::Of {
+                decisions,
+                backtracks,
+                trail: _,
+                conflict: _,
+            } => script::write_end(decisions, backtracks, checks, out),
+        },
+    }
+}
+
+// A session on a book that was read.
+fn run(book: &[u32]) {
+    let mut session = [0u32; 11504];
+    let mut out = [0u8; 4096];
+    let opened = session::open(book, &mut session);
+    let n = propagated(book, &session, script::Cause::Opening, opened, &mut out);
+    print(&out, n);
+    answer_all(book, &mut session);
+    let last = finish(book, &session, &mut out);
+    print(&out, last);
+}
+
+fn main() {
+    let mut text = [0u8; 60001];
+    let mut book = [0u32; 7504];
+    let n = read_text(&mut text);
+    if n <= 60001 {
+        match book::read(&text[..n], &mut book) {
+            book::Reading::Refused(refusal) => {
+                let mut out = [0u8; 64];
+                let length = script::write_refused(refusal, &mut out);
+                print(&out, length);
+            }
+            book::Reading::Book {
+                variables: _,
+                clauses: _,
+                literals: _,
+            } => run(&book),
+        }
+    }
+}

@@ -1,0 +1,70 @@
+-- What a line asks for, by its first bytes and the number behind them.
+use Prim.Native.Nat.{ℕ, _+_, _*_, _-_, _<_}
+use mathlib.Core.Path.{_≡_, refl, sym, ap, _∙_}
+use mathlib.Core.Bool.{Bool, true, false, cond}
+use mathlib.Core.List.{List, [], _∷_}
+use native.Mathlib.Omega.{arith}
+use borrow.Author.Tests.{eq-eqb, ne-eqb}
+use lib.Dec.{eqb}
+use lib.ListN.{length, getD, take, drop, length-drop}
+use lib.Seq.{take-all}
+use Rattle.book.specs.Answer.{digitsOf}
+use Rattle.book.specs.declared.bytes.Digits.{Digits}
+use Rattle.book.specs.declared.bytes.Digits.the-variants.{Value, Invalid}
+use Rattle.book.proofs.DecimalLaws.{word-unsigned, word-not-unsigned}
+use Rattle.script.specs.declared.Line.{Line}
+use Rattle.script.specs.declared.Line.the-variants.{Choose, Back, Malformed}
+use Rattle.script.specs.Script.{numbered, backOf, lineOf}
+
+-- the answer of `number` at the line behind its first n bytes
+pub digits-behind : (n : ℕ) (line : List ℕ) (d : Digits) → d ≡ digitsOf (take (length line - n) (drop n line)) → d ≡ digitsOf (drop n line)
+digits-behind n line d e = rw (take-all (length line - n) (drop n line) (rw (length-drop n line) (omega arith))) at e
+
+module _ (asks : ℕ → Line) (digits : List ℕ) where
+  pub numbered-value : (v : ℕ) → Value v ≡ digitsOf digits → numbered asks digits ≡ asks v
+  unfolding numbered
+  numbered-value v e = rw (word-unsigned digits v e .0, word-unsigned digits v e .1)
+
+  pub numbered-invalid : Invalid ≡ digitsOf digits → numbered asks digits ≡ Malformed
+  unfolding numbered
+  numbered-invalid e = rw (word-not-unsigned digits e)
+
+pub line-empty : (line : List ℕ) → length line ≡ 0 → lineOf line ≡ Malformed
+unfolding lineOf
+line-empty [] h = refl
+line-empty (b ∷ line) h = absurd (omega arith)
+
+pub line-negative : (line : List ℕ) → 0 < length line → getD line 0 0 ≡ 45
+    → lineOf line ≡ numbered (λ (v : ℕ). Choose (2 * v + 1)) (drop 1 line)
+unfolding lineOf
+line-negative [] h e = absurd (omega arith)
+line-negative (b ∷ line) h e = rw (eq-eqb b 45 e)
+
+pub line-back : (line : List ℕ) → 0 < length line → getD line 0 0 ≡ 98 → lineOf line ≡ backOf (drop 1 line)
+unfolding lineOf
+line-back [] h e = absurd (omega arith)
+line-back (b ∷ line) h e = rw (ne-eqb b 45 (λ q. omega arith), eq-eqb b 98 e)
+
+pub line-positive : (line : List ℕ) → 0 < length line → (getD line 0 0 ≡ 45 → ⊥) → (getD line 0 0 ≡ 98 → ⊥)
+    → lineOf line ≡ numbered (λ (v : ℕ). Choose (2 * v)) line
+unfolding lineOf
+line-positive [] h n m = absurd (omega arith)
+line-positive (b ∷ line) h n m = rw (ne-eqb b 45 n, ne-eqb b 98 m)
+
+pub back-none : (line : List ℕ) → length line ≡ 1 → backOf (drop 1 line) ≡ Malformed
+unfolding backOf
+back-none [] h = refl
+back-none (b ∷ []) h = refl
+back-none (b ∷ c ∷ line) h = absurd (omega arith)
+
+pub back-unparted : (line : List ℕ) → (getD line 1 0 ≡ 32 → ⊥) → backOf (drop 1 line) ≡ Malformed
+unfolding backOf
+back-unparted [] n = refl
+back-unparted (b ∷ []) n = refl
+back-unparted (b ∷ c ∷ line) n = rw (ne-eqb c 32 n)
+
+pub back-parted : (line : List ℕ) → getD line 1 0 ≡ 32 → backOf (drop 1 line) ≡ numbered (λ (k : ℕ). Back k) (drop 2 line)
+unfolding backOf
+back-parted [] e = absurd (omega arith)
+back-parted (b ∷ []) e = absurd (omega arith)
+back-parted (b ∷ c ∷ line) e = rw (eq-eqb c 32 e)

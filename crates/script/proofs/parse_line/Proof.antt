@@ -1,0 +1,167 @@
+-- `parse_line` meets its contract: each return is a case of what a line asks for. Assumes nothing.
+use mathlib.Core.Path.{sym, _∙_}
+use native.Mathlib.Omega.{arith}
+use borrow.Author.Tests.{not-true, not-false}
+use Rattle.book.proofs.DecimalLaws.{value-below}
+use Rattle.script.proofs.LineLaws.{digits-behind, numbered-value, numbered-invalid, line-empty, line-negative, line-back, line-positive, back-none, back-unparted, back-parted}
+use borrow.Author.Needs.{needs}
+use Rattle.script.proofs.parse_line.Statement.{statement}
+use Rattle.script.proofs.parse_line.Tie as tie
+use Rattle.script.proofs.parse_line.Reads as reads
+use Rattle.script.proofs.parse_line.Lts as lts
+use Rattle.book.proofs.number.Reads as number-reads
+
+-- src/lib.rt:32:9
+returns : tie.Need-returns
+returns c = sym (line-empty (c .before .before .args .line .now) (c .if1 .taken))
+
+-- src/lib.rt:34:8
+shared-slice-read-if2 : tie.Need-shared-slice-read-if2
+shared-slice-read-if2 c = search needs
+
+-- src/lib.rt:35:28
+sub-number : tie.Need-sub-number
+sub-number c = search needs
+
+-- src/lib.rt:35:28
+part-number-start : tie.Need-part-number-start
+part-number-start c = search needs
+
+-- src/lib.rt:35:28
+part-number-end : tie.Need-part-number-end
+part-number-end c = search needs
+
+-- src/lib.rt:35:15
+number-requires : tie.Need-number-requires
+number-requires c κs = search needs
+
+-- src/lib.rt:36:38
+enum-told : tie.Need-enum-told
+enum-told c = search needs
+
+-- src/lib.rt:37:33
+enum-known-variable : tie.Need-enum-known-variable
+enum-known-variable c = search needs
+
+-- src/lib.rt:37:59
+mul-t16 : tie.Need-mul-t16
+mul-t16 c = omega (arith, value-below _ _ (digits-behind 1 (c .before .before .before .before .before .before .before .before .before .args .line .now) _ (sym (c .before .variable .given .1) ∙ c .before .before .before .number .ensures)))
+
+-- src/lib.rt:37:59
+add-t17 : tie.Need-add-t17
+add-t17 c = omega (arith, value-below _ _ (digits-behind 1 (c .before .before .before .before .before .before .before .before .before .args .line .now) _ (sym (c .before .variable .given .1) ∙ c .before .before .before .number .ensures)))
+
+-- src/lib.rt:39:15
+shared-slice-read-if3 : tie.Need-shared-slice-read-if3
+shared-slice-read-if3 c = search needs
+
+-- src/lib.rt:41:13
+returns-2 : tie.Need-returns-2
+returns-2 c = sym (line-back (c .before .before .before .before .before .before .before .args .line .now) (omega arith) (c .before .if3 .taken) ∙ back-none (c .before .before .before .before .before .before .before .args .line .now) (c .if4 .taken))
+
+-- src/lib.rt:43:12
+shared-slice-read-if5 : tie.Need-shared-slice-read-if5
+shared-slice-read-if5 c = search needs
+
+-- src/lib.rt:44:13
+returns-3 : tie.Need-returns-3
+returns-3 c = sym (line-back (c .before .before .before .before .before .before .before .before .before .args .line .now) (omega arith) (c .before .before .before .if3 .taken) ∙ back-unparted (c .before .before .before .before .before .before .before .before .before .args .line .now) (c .if5 .taken))
+
+-- src/lib.rt:46:28
+sub-number-2 : tie.Need-sub-number-2
+sub-number-2 c = search needs
+
+-- src/lib.rt:46:28
+part-number-start-2 : tie.Need-part-number-start-2
+part-number-start-2 c = search needs
+
+-- src/lib.rt:46:28
+part-number-end-2 : tie.Need-part-number-end-2
+part-number-end-2 c = search needs
+
+-- src/lib.rt:46:15
+number-requires-2 : tie.Need-number-requires-2
+number-requires-2 c κs = search needs
+
+-- src/lib.rt:47:38
+enum-told-2 : tie.Need-enum-told-2
+enum-told-2 c = search needs
+
+-- src/lib.rt:48:33
+enum-known-k : tie.Need-enum-known-k
+enum-known-k c = search needs
+
+-- src/lib.rt:51:15
+number-requires-3 : tie.Need-number-requires-3
+number-requires-3 c κs = search needs
+
+-- src/lib.rt:52:38
+enum-told-3 : tie.Need-enum-told-3
+enum-told-3 c = search needs
+
+-- src/lib.rt:53:33
+enum-known-variable-2 : tie.Need-enum-known-variable-2
+enum-known-variable-2 c = search needs
+
+-- src/lib.rt:53:59
+mul-t33 : tie.Need-mul-t33
+mul-t33 c = omega (arith, value-below _ _ (sym (c .before .variable2 .given .1) ∙ c .before .before .before .number3 .ensures))
+
+-- src/lib.rt:28:1
+returns-4 : tie.Need-returns-4
+returns-4 c = sym (line-negative (c .before .before .before .before .before .before .before .before .args .line .now) (omega arith) (c .before .before .before .before .if2 .taken) ∙ numbered-invalid _ _ (digits-behind 1 (c .before .before .before .before .before .before .before .before .args .line .now) _ (sym (c .enum-told .given .1) ∙ c .before .before .number .ensures)))
+
+-- src/lib.rt:28:1
+returns-5 : tie.Need-returns-5
+returns-5 c = sym (line-negative (c .before .before .before .before .before .before .before .before .before .args .line .now) (omega arith) (c .before .before .before .before .before .if2 .taken) ∙ numbered-value _ _ _ (digits-behind 1 (c .before .before .before .before .before .before .before .before .before .args .line .now) _ (sym (c .before .variable .given .1) ∙ c .before .before .before .number .ensures)))
+
+-- src/lib.rt:28:1
+returns-6 : tie.Need-returns-6
+returns-6 c = sym (line-back (c .before .before .before .before .before .before .before .before .before .before .before .before .before .args .line .now) (omega arith) (c .before .before .before .before .before .before .before .if3 .taken) ∙ back-parted (c .before .before .before .before .before .before .before .before .before .before .before .before .before .args .line .now) (c .before .before .before .before .if5 .left) ∙ numbered-invalid _ _ (digits-behind 2 (c .before .before .before .before .before .before .before .before .before .before .before .before .before .args .line .now) _ (sym (c .enum-told2 .given .1) ∙ c .before .before .number2 .ensures)))
+
+-- src/lib.rt:28:1
+returns-7 : tie.Need-returns-7
+returns-7 c = sym (line-back (c .before .before .before .before .before .before .before .before .before .before .before .before .before .before .args .line .now) (omega arith) (c .before .before .before .before .before .before .before .before .if3 .taken) ∙ back-parted (c .before .before .before .before .before .before .before .before .before .before .before .before .before .before .args .line .now) (c .before .before .before .before .before .if5 .left) ∙ numbered-value _ _ _ (digits-behind 2 (c .before .before .before .before .before .before .before .before .before .before .before .before .before .before .args .line .now) _ (sym (c .before .k .given .1) ∙ c .before .before .before .number2 .ensures)))
+
+-- src/lib.rt:28:1
+returns-8 : tie.Need-returns-8
+returns-8 c = sym (line-positive (c .before .before .before .before .before .before .before .before .before .args .line .now) (omega arith) (c .before .before .before .before .before .if2 .left) (c .before .before .before .if3 .left) ∙ numbered-invalid _ _ (sym (c .enum-told3 .given .1) ∙ c .before .before .number3 .ensures))
+
+-- src/lib.rt:28:1
+returns-9 : tie.Need-returns-9
+returns-9 c = sym (line-positive (c .before .before .before .before .before .before .before .before .before .before .args .line .now) (omega arith) (c .before .before .before .before .before .before .if2 .left) (c .before .before .before .before .if3 .left) ∙ numbered-value _ _ _ (sym (c .before .variable2 .given .1) ∙ c .before .before .before .number3 .ensures))
+
+pub parse-line-spec : {M : Type 1} → statement M
+parse-line-spec =
+    tie.close
+    (tie.spec
+    returns
+    shared-slice-read-if2
+    sub-number
+    part-number-start
+    part-number-end
+    number-requires
+    enum-told
+    enum-known-variable
+    mul-t16
+    add-t17
+    shared-slice-read-if3
+    returns-2
+    shared-slice-read-if5
+    returns-3
+    sub-number-2
+    part-number-start-2
+    part-number-end-2
+    number-requires-2
+    enum-told-2
+    enum-known-k
+    number-requires-3
+    enum-told-3
+    enum-known-variable-2
+    mul-t33
+    returns-4
+    returns-5
+    returns-6
+    returns-7
+    returns-8
+    returns-9)
