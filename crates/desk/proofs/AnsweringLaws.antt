@@ -28,13 +28,13 @@ use Rattle.session.specs.declared.Back.the-variants as back
 use Rattle.session.specs.declared.Shown.the-variants as shown
 use Rattle.session.specs.declared.Sum.the-variants as total
 use Rattle.script.specs.declared.Line.the-variants as line
-use Rattle.script.specs.declared.Cause.the-variants.{Choice}
+use Rattle.script.specs.declared.Cause.the-variants.{Decision}
 use Rattle.script.specs.declared.Cause.{Cause}
 use Rattle.script.specs.Buffer.{fitting}
-use Rattle.script.specs.Answers.{forcedLine, ruleLine, backLine, refusedLine, endLine}
+use Rattle.script.specs.Answers.{impliedLine, clauseLine, backLine, refusedLine, endLine}
 use Rattle.script.specs.Script.{lineOf}
 use Rattle.script.specs.Desk.{propagatedLine, unlessRefused, answerTo, stepOf}
-use Rattle.desk.specs.Answering.{Holds, Prints, Forced, Propagated, Answered, Answers}
+use Rattle.desk.specs.Answering.{Holds, Prints, ShowsImplied, Propagated, Answered, Answers}
 
 module _ (book session : List ℕ) (run : Run) (buffer : List ℕ) (h : Holds book session run buffer) where
   held-is : held (formulaOf book) session ≡ run
@@ -65,36 +65,36 @@ module _ (book session : List ℕ) (run : Run) (buffer : List ℕ) (h : Holds bo
   trail-few = omega (arith, trail-short (valid-structure (h .valid) .trailed), well-formed-limited book (h .well) .variables)
 
   -- the literals that a call implied
-  pub forced-prints : (cause : Cause) (implied trail n : ℕ) (zeros literals out now : List ℕ) (r : ℕ) → trail ≡ length (run .trail) → n ≡ implied
+  pub implied-prints : (cause : Cause) (implied trail n : ℕ) (zeros literals out now : List ℕ) (r : ℕ) → trail ≡ length (run .trail) → n ≡ implied
       → implied ≤ length (run .trail) → n ≤ length zeros → literals ≡ copyNumbers book session (trailBehind (trail - implied)) zeros
-      → (r ≡ fitting (forcedLine cause (take n literals)) out) × (now ≡ copied (forcedLine cause (take n literals)) out)
-      → Prints (forcedLine cause (trailBehind (length (run .trail) - implied) run)) out now r
-  forced-prints cause implied trail n zeros literals out now r t i few room is p =
+      → (r ≡ fitting (impliedLine cause (take n literals)) out) × (now ≡ copied (impliedLine cause (take n literals)) out)
+      → Prints (impliedLine cause (trailBehind (length (run .trail) - implied) run)) out now r
+  implied-prints cause implied trail n zeros literals out now r t i few room is p =
       let same : take n literals ≡ trailBehind (length (run .trail) - implied) run
       = rw (is, t, i) (copy-is implied zeros few (omega arith)) in
       record { bytes = rw same at (p .1); count = rw same at (p .0) }
 
   -- the answer of a call that propagated, by its cases
   pub propagated-implied : (cause : Cause) (implied before : ℕ) → before ≤ length (run .trail) → answer.Implied implied ≡ propagatedAnswer before run
-      → (propagatedLine cause before run ≡ forcedLine cause (trailBehind (length (run .trail) - implied) run)) × (implied ≤ length (run .trail))
+      → (propagatedLine cause before run ≡ impliedLine cause (trailBehind (length (run .trail) - implied) run)) × (implied ≤ length (run .trail))
   unfolding propagatedAnswer propagatedLine
   propagated-implied cause implied before b a = go (inConflict run) refl a
     where
       go : (c : Bool) → inConflict run ≡ c → answer.Implied implied ≡ cond c (answer.Conflict (run .conflict)) (answer.Implied (length (run .trail) - before))
-          → (cond c (ruleLine cause (run .conflict)) (forcedLine cause (trailBehind before run)) ≡ forcedLine cause (trailBehind (length (run .trail) - implied) run)) × (implied ≤ length (run .trail))
+          → (cond c (clauseLine cause (run .conflict)) (impliedLine cause (trailBehind before run)) ≡ impliedLine cause (trailBehind (length (run .trail) - implied) run)) × (implied ≤ length (run .trail))
       go true q e = let z : _≡_ {A = ℕ} 0 1 = cc in absurd (omega arith)
       go false q e =
           let is : implied ≡ length (run .trail) - before = cc in
           let same : before ≡ length (run .trail) - implied = omega arith in
-          (ap (λ (n : ℕ). forcedLine cause (trailBehind n run)) same, omega arith)
+          (ap (λ (n : ℕ). impliedLine cause (trailBehind n run)) same, omega arith)
 
-  pub propagated-conflict : (cause : Cause) (clause before : ℕ) → answer.Conflict clause ≡ propagatedAnswer before run → propagatedLine cause before run ≡ ruleLine cause clause
+  pub propagated-conflict : (cause : Cause) (clause before : ℕ) → answer.Conflict clause ≡ propagatedAnswer before run → propagatedLine cause before run ≡ clauseLine cause clause
   unfolding propagatedAnswer propagatedLine
   propagated-conflict cause clause before a = go (inConflict run) refl a
     where
       go : (c : Bool) → inConflict run ≡ c → answer.Conflict clause ≡ cond c (answer.Conflict (run .conflict)) (answer.Implied (length (run .trail) - before))
-          → cond c (ruleLine cause (run .conflict)) (forcedLine cause (trailBehind before run)) ≡ ruleLine cause clause
-      go true q e = let is : clause ≡ run .conflict = cc in ap (ruleLine cause) (sym is)
+          → cond c (clauseLine cause (run .conflict)) (impliedLine cause (trailBehind before run)) ≡ clauseLine cause clause
+      go true q e = let is : clause ≡ run .conflict = cc in ap (clauseLine cause) (sym is)
       go false q e = let z : _≡_ {A = ℕ} 0 1 = cc in absurd (omega arith)
 
   pub propagated-refused : (refusal before : ℕ) → answer.Refused refusal ≡ propagatedAnswer before run → ⊥
@@ -126,7 +126,7 @@ module _ (book session : List ℕ) (run : Run) (buffer : List ℕ) (h : Holds bo
 
   -- a decision: the answer is printed as the run's
   pub choose-answered : (l : ℕ) (made : Answer) (now out printed : List ℕ) (r : ℕ) → made ≡ decideAnswer book session l → now ≡ decideNumbers book session l
-      → Propagated book now (Choice l) made out printed r
+      → Propagated book now (Decision l) made out printed r
       → Prints (answerTo (formulaOf book) run (line.Choose l)) out printed r × Holds book now (stepOf (formulaOf book) run (line.Choose l)) buffer
   unfolding answerTo stepOf unlessRefused callNumbers step refusal perform
   choose-answered l made now out printed r a e s = (go (eqb (decideRefusal (formulaOf book) l run) 0) refl, holds)
@@ -135,7 +135,7 @@ module _ (book session : List ℕ) (run : Run) (buffer : List ℕ) (h : Holds bo
       holds = next-holds (decision l) now e
 
       go : (b : Bool) → eqb (decideRefusal (formulaOf book) l run) 0 ≡ b
-          → Prints (cond b (propagatedLine (Choice l) (suc (length (run .trail))) (decide (formulaOf book) l run)) (refusedLine (decideRefusal (formulaOf book) l run))) out printed r
+          → Prints (cond b (propagatedLine (Decision l) (suc (length (run .trail))) (decide (formulaOf book) l run)) (refusedLine (decideRefusal (formulaOf book) l run))) out printed r
       go true q =
           let next : Holds book now (decide (formulaOf book) l run) buffer = rw q at holds in
           let more = decide-extends (formulaOf book) l run in
@@ -179,7 +179,7 @@ module _ (book session : List ℕ) (run : Run) (buffer : List ℕ) (h : Holds bo
 
 -- what a call that propagated prints, by the cases of its answer
 module _ (book session : List ℕ) (cause : Cause) (made : Answer) (out now : List ℕ) (r : ℕ) where
-  pub propagated-by-implied : (implied : ℕ) → made ≡ answer.Implied implied → Forced book session cause implied out now r → Propagated book session cause made out now r
+  pub propagated-by-implied : (implied : ℕ) → made ≡ answer.Implied implied → ShowsImplied book session cause implied out now r → Propagated book session cause made out now r
   propagated-by-implied implied told f =
       record {
         propagates = λ run buffer h before low e.
@@ -189,7 +189,7 @@ module _ (book session : List ℕ) (cause : Cause) (made : Answer) (out now : Li
       }
 
   pub propagated-by-conflict : (clause : ℕ) → made ≡ answer.Conflict clause
-      → (r ≡ fitting (ruleLine cause clause) out) × (now ≡ copied (ruleLine cause clause) out) → Propagated book session cause made out now r
+      → (r ≡ fitting (clauseLine cause clause) out) × (now ≡ copied (clauseLine cause clause) out) → Propagated book session cause made out now r
   propagated-by-conflict clause told p =
       record {
         propagates = λ run buffer h before low e.
@@ -213,7 +213,7 @@ module _ (book session bytes out now : List ℕ) (r : ℕ) where
 
 module _ (book session bytes next out now : List ℕ) (r : ℕ) where
   pub answered-choice : (l : ℕ) (made : Answer) → line.Choose l ≡ lineOf bytes → made ≡ decideAnswer book session l → next ≡ decideNumbers book session l
-      → Propagated book next (Choice l) made out now r → Answers book session next bytes out now r
+      → Propagated book next (Decision l) made out now r → Answers book session next bytes out now r
   answered-choice l made told a e s run buffer h =
       let parts = choose-answered book session run buffer h l made next out now r a e s in
       record { prints = rw (← told) (parts .0); holds = rw (← told) (parts .1) }

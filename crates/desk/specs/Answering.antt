@@ -14,7 +14,7 @@ use Rattle.session.specs.declared.Answer.{Answer}
 use Rattle.session.specs.declared.Answer.the-variants.{Refused}
 use Rattle.script.specs.declared.Cause.{Cause}
 use Rattle.script.specs.Script.{lineOf}
-use Rattle.script.specs.Answers.{forcedLine, refusedLine, endLine}
+use Rattle.script.specs.Answers.{impliedLine, refusedLine, endLine}
 use Rattle.script.specs.Buffer.{fitting}
 use Rattle.script.specs.Desk.{propagatedLine, answerTo, stepOf}
 
@@ -33,10 +33,10 @@ pub record Prints (line before now : List ℕ) (r : ℕ) : Type 0 where
 abbrev pub Counted : List ℕ → List ℕ → ℕ → Type 0
 Counted book session r = (run : Run) (buffer : List ℕ) → Holds book session run buffer → r ≡ length (run .trail)
 
-abbrev pub Forced : List ℕ → List ℕ → Cause → ℕ → List ℕ → List ℕ → ℕ → Type 0
-Forced book session cause implied out now r =
+abbrev pub ShowsImplied : List ℕ → List ℕ → Cause → ℕ → List ℕ → List ℕ → ℕ → Type 0
+ShowsImplied book session cause implied out now r =
     (run : Run) (buffer : List ℕ) → Holds book session run buffer → implied ≤ length (run .trail)
-    → Prints (forcedLine cause (trailBehind (length (run .trail) - implied) run)) out now r
+    → Prints (impliedLine cause (trailBehind (length (run .trail) - implied) run)) out now r
 
 pub record Propagated (book session : List ℕ) (cause : Cause) (answer : Answer) (out now : List ℕ) (r : ℕ) : Type 0 where
   pub propagates : (run : Run) (buffer : List ℕ) → Holds book session run buffer → (before : ℕ) → before ≤ length (run .trail)

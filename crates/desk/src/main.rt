@@ -1,6 +1,6 @@
 // Reads the rule book `tariff.cnf`, then a script from standard input, and prints an answer to each line.
 ghost use mathlib.Core.Path.{_≡_};
-ghost use Rattle.desk.specs.Answering.{Counted, Forced, Propagated, Answers, Finishes};
+ghost use Rattle.desk.specs.Answering.{Counted, ShowsImplied, Propagated, Answers, Finishes};
 use libc::STDIN_FILENO;
 use libc::STDOUT_FILENO;
 
@@ -44,14 +44,14 @@ fn trail_length(book: &[u32], session: &[u32]) -> u32
 }
 
 // The line of a call that implied so many literals: the last ones on the trail.
-fn forced(
+fn show_implied(
     book: &[u32],
     session: &[u32],
     cause: script::Cause,
     implied: u32,
     out: &mut [u8],
 ) -> usize
-    ensures { λ r. ⌜ Forced (now (book .entry)) (now (session .entry)) cause implied (now (out .entry)) (now (out .exit)) r ⌝ }
+    ensures { λ r. ⌜ ShowsImplied (now (book .entry)) (now (session .entry)) cause implied (now (out .entry)) (now (out .exit)) r ⌝ }
 {
     let mut literals = [0u32; 500];
     let trail = trail_length(book, session);
@@ -63,7 +63,7 @@ fn forced(
         return 0;
     }
     session::trail_from(book, session, trail - implied, &mut literals);
-    script::write_forced(cause, &literals[..n], out)
+    script::write_implied(cause, &literals[..n], out)
 }
 
 // The line of an opening or a decision.
@@ -77,8 +77,8 @@ fn propagated(
     ensures { λ r. ⌜ Propagated (now (book .entry)) (now (session .entry)) cause answer (now (out .entry)) (now (out .exit)) r ⌝ }
 {
     match answer {
-        session::Answer::Implied(implied) => forced(book, session, cause, implied, out),
-        session::Answer::Conflict(clause) => script::write_rule(cause, clause, out),
+        session::Answer::Implied(implied) => show_implied(book, session, cause, implied, out),
+        session::Answer::Conflict(clause) => script::write_clause(cause, clause, out),
         session::Answer::Refused(refusal) => script::write_refused(refusal, out),
     }
 }
@@ -91,7 +91,7 @@ fn answer(book: &[u32], session: &mut [u32], line: &[u8], out: &mut [u8]) -> usi
         script::Line::Malformed => script::write_refused(18, out),
         script::Line::Choose(literal) => {
             let made = session::decide(book, session, literal);
-            propagated(book, session, script::Cause::Choice(literal), made, out)
+            propagated(book, session, script::Cause::Decision(literal), made, out)
         }
         script::Line::Back(k) => match session::backtrack(book, session, k) {
             session::Back::Done => script::write_back(k, out),

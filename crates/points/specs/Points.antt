@@ -19,7 +19,7 @@ use Rattle.session.specs.Layout.{valueNumber, levelNumber, nodeOf, watchLiteral
 use Rattle.session.specs.Validation.{hasReason, isJustified, isWatching, isGuarded, watchesHold, isFixpoint, isConflict, isListed, isValid, passes}
 use Rattle.session.specs.Outcomes.{callRefusal, sessionBacktrackRefusal, backtrackNumbers, after as numbersAfter}
 use Rattle.script.specs.Script.{scriptLines, numbered, backOf, lineOf}
-use Rattle.script.specs.Answers.{bytes, signed, listed, callWords, forcedLine, ruleLine, backLine, refusedLine, endLine}
+use Rattle.script.specs.Answers.{bytes, signed, listed, callWords, impliedLine, clauseLine, backLine, refusedLine, endLine}
 use Rattle.script.specs.Desk.{propagatedLine, unlessRefused, answerTo, stepOf, answersTo, outputFor, deskOutput}
 use Rattle.run.specs.Ceiling.{checksOf, countBefore, countAtLatest, ceiling}
 
@@ -195,7 +195,7 @@ pub record Table : Type 0 where
   pub conflict-ends-named : reference torn (decision (negative 1) ∷ []) .conflict ≡ 2
 
 pub table : Table
-unfolding scriptLines numbered backOf lineOf signed listed callWords forcedLine ruleLine backLine refusedLine endLine propagatedLine unlessRefused answerTo stepOf answersTo outputFor deskOutput trailBehind sum any distinct times values upTo soundClause sound starts numbersOf clausesFrom rising wellFormed valueNumber levelNumber nodeOf watchLiteral firstNode behind headNumber linkNumber watchNumber encode levelBefore heldTrail heldCells chainFrom heldLists held hasReason isJustified isWatching isGuarded watchesHold isFixpoint isConflict isListed isValid passes callRefusal sessionBacktrackRefusal backtrackNumbers numbersAfter all keep flat empty member same begins literalWithin blank lineEnd extend split kept linesOf filled wordsOf decimal isDigit unsigned unsignedToken negativeToken tokenOf headed headerIn headerOf fault opened closed written notNumber overVariables wrongLength repeated surplus unfinished overLiterals faultsAt faultsFrom outside bodyOf faultsUnder faultsOf before earlier least onto clausesIn formulaUnder formulaIn judged readText digits opposite place literalAt isTrue decisions level lowered cut watched next oneMore scanFrom scan pushFront without takeOut addChecks otherWatch moved scannedAction action onTrail withWatches withConflict counted perform visit readList propagateFrom firstCell watchAll fresh assignUnit assignUnits openRun decide backtrack decideRefusal backtrackRefusal refusal performCall step stepAll reference countAtLatest bytes counting positives reversed
+unfolding scriptLines numbered backOf lineOf signed listed callWords impliedLine clauseLine backLine refusedLine endLine propagatedLine unlessRefused answerTo stepOf answersTo outputFor deskOutput trailBehind sum any distinct times values upTo soundClause sound starts numbersOf clausesFrom rising wellFormed valueNumber levelNumber nodeOf watchLiteral firstNode behind headNumber linkNumber watchNumber encode levelBefore heldTrail heldCells chainFrom heldLists held hasReason isJustified isWatching isGuarded watchesHold isFixpoint isConflict isListed isValid passes callRefusal sessionBacktrackRefusal backtrackNumbers numbersAfter all keep flat empty member same begins literalWithin blank lineEnd extend split kept linesOf filled wordsOf decimal isDigit unsigned unsignedToken negativeToken tokenOf headed headerIn headerOf fault opened closed written notNumber overVariables wrongLength repeated surplus unfinished overLiterals faultsAt faultsFrom outside bodyOf faultsUnder faultsOf before earlier least onto clausesIn formulaUnder formulaIn judged readText digits opposite place literalAt isTrue decisions level lowered cut watched next oneMore scanFrom scan pushFront without takeOut addChecks otherWatch moved scannedAction action onTrail withWatches withConflict counted perform visit readList propagateFrom firstCell watchAll fresh assignUnit assignUnits openRun decide backtrack decideRefusal backtrackRefusal refusal performCall step stepAll reference countAtLatest bytes counting positives reversed
 table =
     record {
       literals-255 = refl;

@@ -9,7 +9,7 @@ use lib.ListN.{length}
 use Rattle.book.specs.Formula.{variableOf}
 use Rattle.book.specs.Printer.{digits}
 use Rattle.script.specs.declared.Cause.{Cause}
-use Rattle.script.specs.declared.Cause.the-variants.{Opening, Choice}
+use Rattle.script.specs.declared.Cause.the-variants.{Opening, Decision}
 
 -- a quoted text as bytes
 unfoldable pub bytes : String → List ℕ
@@ -32,15 +32,15 @@ listed (literal ∷ literals) = 32 ∷ (signed literal ++ listed literals)
 -- what begins the line of a call that propagated
 unfoldable pub callWords : Cause → List ℕ
 callWords Opening = bytes "open"
-callWords (Choice literal) = bytes "choose " ++ signed literal
+callWords (Decision literal) = bytes "choose " ++ signed literal
 
 -- a call that propagated without a conflict: how many literals it implied, and each of them
-unfoldable pub forcedLine : Cause → List ℕ → List ℕ
-forcedLine cause literals = callWords cause ++ (bytes " forced " ++ (number (length literals) ++ (58 ∷ listed literals)))
+unfoldable pub impliedLine : Cause → List ℕ → List ℕ
+impliedLine cause literals = callWords cause ++ (bytes " forced " ++ (number (length literals) ++ (58 ∷ listed literals)))
 
 -- a call that ended in a conflict: the conflict clause's name
-unfoldable pub ruleLine : Cause → ℕ → List ℕ
-ruleLine cause clause = callWords cause ++ (bytes " rule " ++ (number clause ++ (10 ∷ [])))
+unfoldable pub clauseLine : Cause → ℕ → List ℕ
+clauseLine cause clause = callWords cause ++ (bytes " rule " ++ (number clause ++ (10 ∷ [])))
 
 -- an accepted backtrack
 unfoldable pub backLine : ℕ → List ℕ

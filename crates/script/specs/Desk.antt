@@ -13,13 +13,13 @@ use Rattle.run.specs.Calls.{decision, backtrackBy, decideRefusal, backtrackRefu
 use Rattle.script.specs.declared.Line.{Line}
 use Rattle.script.specs.declared.Line.the-variants.{Choose, Back, Malformed}
 use Rattle.script.specs.declared.Cause.{Cause}
-use Rattle.script.specs.declared.Cause.the-variants.{Opening, Choice}
+use Rattle.script.specs.declared.Cause.the-variants.{Opening, Decision}
 use Rattle.script.specs.Script.{scriptLines, lineOf}
-use Rattle.script.specs.Answers.{forcedLine, ruleLine, backLine, refusedLine, endLine}
+use Rattle.script.specs.Answers.{impliedLine, clauseLine, backLine, refusedLine, endLine}
 
 -- the line of a call that propagated: the conflict clause, or what came on the trail behind the first so many
 unfoldable pub propagatedLine : Cause → ℕ → Run → List ℕ
-propagatedLine cause before run = cond (inConflict run) (ruleLine cause (run .conflict)) (forcedLine cause (trailBehind before run))
+propagatedLine cause before run = cond (inConflict run) (clauseLine cause (run .conflict)) (impliedLine cause (trailBehind before run))
 
 -- `refused` and the number, or, where it is 0, the line of an accepted call
 unfoldable pub unlessRefused : ℕ → List ℕ → List ℕ
@@ -28,7 +28,7 @@ unlessRefused refusal line = cond (eqb refusal 0) line (refusedLine refusal)
 -- the answer to a line in the run's own state
 unfoldable pub answerTo : Formula → Run → Line → List ℕ
 answerTo formula run (Choose l) =
-    unlessRefused (decideRefusal formula l run) (propagatedLine (Choice l) (suc (length (run .trail))) (decide formula l run))
+    unlessRefused (decideRefusal formula l run) (propagatedLine (Decision l) (suc (length (run .trail))) (decide formula l run))
 answerTo formula run (Back k) = unlessRefused (backtrackRefusal k run) (backLine k)
 answerTo formula run Malformed = refusedLine 18
 

@@ -5,7 +5,7 @@ ghost use mathlib.Core.Path.{_≡_};
 ghost use Rattle.script.specs.Script.{lineOf};
 ghost use Rattle.base.specs.Lists.{copied};
 ghost use Rattle.script.specs.Buffer.{fitting};
-ghost use Rattle.script.specs.Answers.{forcedLine, ruleLine, backLine, refusedLine, endLine};
+ghost use Rattle.script.specs.Answers.{impliedLine, clauseLine, backLine, refusedLine, endLine};
 use crate::writing::put;
 use crate::writing::put_all;
 use crate::writing::put_cause;
@@ -23,7 +23,7 @@ pub enum Line {
 // The call that a line answers, if it propagates.
 pub enum Cause {
     Opening,
-    Choice(u32),
+    Decision(u32),
 }
 
 // Reads one line, without its byte 10.
@@ -58,24 +58,24 @@ pub fn parse_line(line: &[u8]) -> Line
 }
 
 // Each of these writes a line to the front of `out`, as far as it fits, and answers how many bytes it wrote.
-pub fn write_forced(cause: Cause, literals: &[u32], out: &mut [u8]) -> usize
-    ensures { λ r. ⌜ r ≡ fitting (forcedLine cause (now (literals .entry))) (now (out .entry)) ⌝ }
-    ensures { λ r. ⌜ now (out .exit) ≡ copied (forcedLine cause (now (literals .entry))) (now (out .entry)) ⌝ }
+pub fn write_implied(cause: Cause, literals: &[u32], out: &mut [u8]) -> usize
+    ensures { λ r. ⌜ r ≡ fitting (impliedLine cause (now (literals .entry))) (now (out .entry)) ⌝ }
+    ensures { λ r. ⌜ now (out .exit) ≡ copied (impliedLine cause (now (literals .entry))) (now (out .entry)) ⌝ }
 {
     let words = put_cause(cause, 0, out);
-    let forced = put_all(b" forced ", words, out);
-    let count = put_number(literals.len() as u64, forced, out);
+    let kind = put_all(b" forced ", words, out);
+    let count = put_number(literals.len() as u64, kind, out);
     let colon = put(58, count, out);
     put_listed(literals, colon, out)
 }
 
-pub fn write_rule(cause: Cause, clause: u32, out: &mut [u8]) -> usize
-    ensures { λ r. ⌜ r ≡ fitting (ruleLine cause clause) (now (out .entry)) ⌝ }
-    ensures { λ r. ⌜ now (out .exit) ≡ copied (ruleLine cause clause) (now (out .entry)) ⌝ }
+pub fn write_clause(cause: Cause, clause: u32, out: &mut [u8]) -> usize
+    ensures { λ r. ⌜ r ≡ fitting (clauseLine cause clause) (now (out .entry)) ⌝ }
+    ensures { λ r. ⌜ now (out .exit) ≡ copied (clauseLine cause clause) (now (out .entry)) ⌝ }
 {
     let words = put_cause(cause, 0, out);
-    let rule = put_all(b" rule ", words, out);
-    let name = put_number(wide(clause), rule, out);
+    let kind = put_all(b" rule ", words, out);
+    let name = put_number(wide(clause), kind, out);
     put(10, name, out)
 }
 
@@ -101,8 +101,8 @@ pub fn write_end(decisions: u32, backtracks: u32, checks: u64, out: &mut [u8]) -
     ensures { λ r. ⌜ r ≡ fitting (endLine decisions backtracks checks) (now (out .entry)) ⌝ }
     ensures { λ r. ⌜ now (out .exit) ≡ copied (endLine decisions backtracks checks) (now (out .entry)) ⌝ }
 {
-    let choices = put_all(b"end choices ", 0, out);
-    let decided = put_number(wide(decisions), choices, out);
+    let words = put_all(b"end choices ", 0, out);
+    let decided = put_number(wide(decisions), words, out);
     let backs = put_all(b" backs ", decided, out);
     let taken = put_number(wide(backtracks), backs, out);
     let sum = put_all(b" checks ", taken, out);

@@ -82,7 +82,7 @@ pub(crate) fn put_cause(cause: Cause, at: usize, out: &mut [u8]) -> usize
 {
     match cause {
         Cause::Opening => put_all(b"open", at, out),
-        Cause::Choice(literal) => {
+        Cause::Decision(literal) => {
             let end = put_all(b"choose ", at, out);
             put_literal(literal, end, out)
         }

@@ -1,12 +1,12 @@
--- `write_rule` meets its contract. Assumes nothing.
+-- `write_clause` meets its contract. Assumes nothing.
 use mathlib.Core.Path.{ap}
-use Rattle.script.specs.Answers.{bytes, ruleLine}
+use Rattle.script.specs.Answers.{bytes, clauseLine}
 use Rattle.script.proofs.WritingLaws.{appends-both, appends-as, line-written}
 use borrow.Author.Needs.{needs}
-use Rattle.script.proofs.write_rule.Statement.{statement}
-use Rattle.script.proofs.write_rule.Tie as tie
-use Rattle.script.proofs.write_rule.Reads as reads
-use Rattle.script.proofs.write_rule.Lts as lts
+use Rattle.script.proofs.write_clause.Statement.{statement}
+use Rattle.script.proofs.write_clause.Tie as tie
+use Rattle.script.proofs.write_clause.Reads as reads
+use Rattle.script.proofs.write_clause.Lts as lts
 use Rattle.script.proofs.writing.put.Reads as put-reads
 use Rattle.script.proofs.writing.put_all.Reads as put-all-reads
 use Rattle.script.proofs.writing.put_cause.Reads as put-cause-reads
@@ -43,11 +43,11 @@ same-length c = search needs
 
 -- src/lib.rt:70:1
 returns : tie.Need-returns
-unfolding bytes ruleLine
-returns c = line-written (appends-as (ap (ruleLine (c .before .before .before .before .before .before .before .before .before .before .before .before .before .before .before .before .before .before .before .args .cause)) (c .before .before .before .before .before .before .before .before .wide .ensures)) (appends-both (c .before .before .before .before .before .before .before .before .before .before .before .before .before .before .before .before .put-cause .ensures) (appends-both (c .before .before .before .before .before .before .before .before .before .before .before .put-all .ensures) (appends-both (c .before .before .before .before .before .before .put-number .ensures) (c .before .before .put .ensures)))))
+unfolding bytes clauseLine
+returns c = line-written (appends-as (ap (clauseLine (c .before .before .before .before .before .before .before .before .before .before .before .before .before .before .before .before .before .before .before .args .cause)) (c .before .before .before .before .before .before .before .before .wide .ensures)) (appends-both (c .before .before .before .before .before .before .before .before .before .before .before .before .before .before .before .before .put-cause .ensures) (appends-both (c .before .before .before .before .before .before .before .before .before .before .before .put-all .ensures) (appends-both (c .before .before .before .before .before .before .put-number .ensures) (c .before .before .put .ensures)))))
 
-pub write-rule-spec : {M : Type 1} → statement M
-write-rule-spec =
+pub write-clause-spec : {M : Type 1} → statement M
+write-clause-spec =
     tie.close
     (tie.spec
     put-cause-requires

@@ -1,11 +1,11 @@
--- `write_forced` meets its contract. Assumes nothing.
-use Rattle.script.specs.Answers.{bytes, forcedLine}
+-- `write_implied` meets its contract. Assumes nothing.
+use Rattle.script.specs.Answers.{bytes, impliedLine}
 use Rattle.script.proofs.WritingLaws.{appends-both, line-written}
 use borrow.Author.Needs.{needs}
-use Rattle.script.proofs.write_forced.Statement.{statement}
-use Rattle.script.proofs.write_forced.Tie as tie
-use Rattle.script.proofs.write_forced.Reads as reads
-use Rattle.script.proofs.write_forced.Lts as lts
+use Rattle.script.proofs.write_implied.Statement.{statement}
+use Rattle.script.proofs.write_implied.Tie as tie
+use Rattle.script.proofs.write_implied.Reads as reads
+use Rattle.script.proofs.write_implied.Lts as lts
 use Rattle.script.proofs.writing.put.Reads as put-reads
 use Rattle.script.proofs.writing.put_all.Reads as put-all-reads
 use Rattle.script.proofs.writing.put_cause.Reads as put-cause-reads
@@ -42,11 +42,11 @@ same-length c = search needs
 
 -- src/lib.rt:59:1
 returns : tie.Need-returns
-unfolding bytes forcedLine
+unfolding bytes impliedLine
 returns c = line-written (appends-both (c .before .before .before .before .before .before .before .before .before .before .before .before .before .before .before .before .before .before .before .put-cause .ensures) (appends-both (c .before .before .before .before .before .before .before .before .before .before .before .before .before .before .put-all .ensures) (appends-both (c .before .before .before .before .before .before .before .before .before .before .put-number .ensures) (appends-both (c .before .before .before .before .before .before .put .ensures) (c .before .before .put-listed .ensures)))))
 
-pub write-forced-spec : {M : Type 1} → statement M
-write-forced-spec =
+pub write-implied-spec : {M : Type 1} → statement M
+write-implied-spec =
     tie.close
     (tie.spec
     put-cause-requires
