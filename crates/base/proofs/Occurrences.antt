@@ -12,7 +12,7 @@ use Rattle.base.specs.Lists.{keep, member, distinct, times}
 use Rattle.base.proofs.Bools.{refuted}
 use Rattle.base.proofs.Members.{times-same, position}
 use Rattle.base.proofs.Pigeonhole.{pigeonhole}
-use Rattle.base.proofs.ForAll.{member-times, times-member}
+use Rattle.base.proofs.ForAll.{member-times}
 
 pub times-more : (x y : ℕ) (ys : List ℕ) → times x ys ≤ times x (y ∷ ys)
 unfolding times

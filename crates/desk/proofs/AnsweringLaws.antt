@@ -2,22 +2,21 @@
 use Prim.Native.Nat.{ℕ, suc, _+_, _-_, _≤_}
 use mathlib.Core.Path.{_≡_, refl, sym, ap, _∙_}
 use mathlib.Core.Bool.{Bool, true, false, cond}
-use mathlib.Core.List.{List, [], _∷_, _++_}
+use mathlib.Core.List.{List}
 use native.Mathlib.Omega.{arith}
-use borrow.Author.Tests.{eqb-true, eqb-false, eq-eqb, ne-eqb}
 use lib.Dec.{eqb}
 use lib.ListN.{length, take, drop, length-append, length-drop}
 use lib.Seq.{take-all, take-at}
 use Rattle.base.specs.Lists.{sum, table, copied}
-use Rattle.book.specs.Numbers.{wellFormed, formulaOf}
+use Rattle.book.specs.Numbers.{formulaOf}
 use Rattle.book.proofs.WellFormedLaws.{well-formed-sound, well-formed-limited}
 use Rattle.run.proofs.Propagation.{valid-structure}
 use Rattle.run.proofs.Validity.{trail-short}
 use Rattle.run.specs.Trail.{literalAt, decisions}
 use Rattle.run.specs.Run.{Run, inConflict, decide, backtrack, trailBehind}
 use Rattle.run.specs.Calls.{Call, decision, backtrackBy, decideRefusal, backtrackRefusal, refusal, step, perform}
-use Rattle.run.proofs.Theorems.{step-valid, step-refused, decide-extends}
-use Rattle.session.specs.Outcomes.{after, propagatedAnswer, decideAnswer, decideNumbers, decisionRefusal, backtrackAnswer, backtrackNumbers, sessionBacktrackRefusal, readRefusal, figuresOf, figuresAnswer, totalAnswer, copyNumbers, callNumbers}
+use Rattle.run.proofs.Theorems.{step-valid, decide-extends}
+use Rattle.session.specs.Outcomes.{propagatedAnswer, decideAnswer, decideNumbers, decisionRefusal, backtrackAnswer, backtrackNumbers, sessionBacktrackRefusal, readRefusal, figuresOf, figuresAnswer, totalAnswer, copyNumbers, callNumbers}
 use Rattle.session.specs.Layout.{held}
 use Rattle.base.proofs.Tables.{length-table}
 use Rattle.session.proofs.CallLaws.{held-after, call-refusal, call-numbers}
@@ -34,7 +33,7 @@ use Rattle.script.specs.Buffer.{fitting}
 use Rattle.script.specs.Answers.{impliedLine, clauseLine, backLine, refusedLine, endLine}
 use Rattle.script.specs.Script.{lineOf}
 use Rattle.script.specs.Desk.{propagatedLine, unlessRefused, answerTo, stepOf}
-use Rattle.desk.specs.Answering.{Holds, Prints, ShowsImplied, Propagated, Answered, Answers}
+use Rattle.desk.specs.Answering.{Holds, Prints, ShowsImplied, Propagated, Answers}
 
 module _ (book session : List ℕ) (run : Run) (buffer : List ℕ) (h : Holds book session run buffer) where
   held-is : held (formulaOf book) session ≡ run

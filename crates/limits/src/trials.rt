@@ -105,7 +105,7 @@ fn read_whole(text: &[u8]) {
         }
     }
     if !untouched(&buffer, written) {
-        print(b", buffer numbers changed");
+        print(b", lent numbers changed");
     }
 }
 
@@ -134,7 +134,7 @@ fn print_rest(buffer: &[u32], from: usize, said: &[u8]) {
     if untouched(buffer, from) {
         print(said);
     } else {
-        print(b", buffer numbers changed");
+        print(b", lent numbers changed");
     }
 }
 
@@ -143,7 +143,7 @@ fn read_into(text: &[u8], room: usize, space: &mut [u32]) {
     if room <= space.len() {
         let written = read(text, &mut space[0..room]);
         if written == 0 {
-            print_rest(space, 0, b", buffer numbers untouched");
+            print_rest(space, 0, b", lent numbers untouched");
         } else {
             print_numbers(space, written);
             if written < room {

@@ -12,7 +12,7 @@ use Rattle.book.specs.Faults.{fault, opened, closed, written, notNumber, overVa
 use Rattle.book.specs.Reading.{before, earlier, least, onto, clausesIn, formulaUnder, formulaIn, refused, accepted, judged, readText}
 use Rattle.book.specs.Printer.{digits, printNumber}
 use Rattle.run.specs.Trail.{Entry, opposite, place, literalAt, isTrue, decisions, level, lowered, cut}
-use Rattle.run.specs.Scan.{Cell, watched, next, oneMore, scanFrom, scan}
+use Rattle.run.specs.Scan.{watched, next, oneMore, scanFrom, scan}
 use Rattle.run.specs.Run.{Run, trailBehind, size, cellOf, listOf, pushFront, without, takeOut, addChecks, otherWatch, moved, scannedAction, action, onTrail, withWatches, withConflict, counted, perform, visit, readList, propagateFrom, firstCell, watchAll, fresh, assignUnit, assignUnits, openRun, decide, backtrack}
 use Rattle.run.specs.Calls.{Call, decision, backtrackBy, decideRefusal, backtrackRefusal, refusal, perform as performCall, step, stepAll, reference}
 use Rattle.session.specs.Layout.{valueNumber, levelNumber, nodeOf, watchLiteral, firstNode, behind, headNumber, linkNumber, watchNumber, encode, levelBefore, heldTrail, heldCells, chainFrom, heldLists, held}

@@ -5,7 +5,7 @@ use mathlib.Core.List.{List, [], _∷_, _++_, append-nil, append-assoc}
 use native.Mathlib.Numerals.{add-one}
 use native.Mathlib.Omega.{arith}
 use lib.ListN.{length, getD, take, drop, set, length-take, length-drop, length-append, length-set, drop-of-length-le}
-use lib.Seq.{take-all, take-append-le, length-take-le, drop-cons, set-at, take-suc, append-snoc}
+use lib.Seq.{take-all, take-append-le, drop-cons, set-at, take-suc, append-snoc}
 use Rattle.base.specs.Lists.{copied}
 use Rattle.script.specs.Buffer.{fitting}
 use Rattle.script.specs.Answers.{signed, listed}

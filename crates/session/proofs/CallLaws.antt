@@ -1,14 +1,14 @@
 -- The calls on a session that holds a valid run: what each answers, and what the lent numbers are afterwards.
-use Prim.Native.Nat.{ℕ, zero, suc, _+_, _≤_, _<_}
-use mathlib.Core.Path.{_≡_, refl, ap, sym, _∙_}
+use Prim.Native.Nat.{ℕ, _+_, _≤_}
+use mathlib.Core.Path.{_≡_, refl, ap}
 use mathlib.Core.Bool.{Bool, true, false, cond}
 use mathlib.Core.List.{List, [], _∷_, _++_}
 use native.Mathlib.Omega.{arith}
-use borrow.Author.Tests.{ltb-true, ltb-false, eqb-true}
+use borrow.Author.Tests.{ltb-false}
 use lib.Dec.{ltb, eqb}
-use lib.ListN.{length, take, drop, take-append-drop}
-use lib.Seq.{drop-at, take-at}
-use Rattle.book.specs.Formula.{Formula, sound}
+use lib.ListN.{length, drop}
+use lib.Seq.{drop-at}
+use Rattle.book.specs.Formula.{Formula}
 use Rattle.book.specs.Numbers.{wellFormed, formulaOf}
 use Rattle.book.proofs.WellFormedLaws.{well-formed-sound}
 use Rattle.run.specs.Run.{Run, openRun, decide, backtrack}

@@ -1,23 +1,21 @@
 -- The public calls, way out by way out: the refusals in their order, and what an accepted call answers and leaves.
-use Prim.Native.Nat.{ℕ, zero, suc, _+_, _*_, _-_, _/_, _%_, _≤_, _<_}
+use Prim.Native.Nat.{ℕ, zero, suc, _+_, _*_, _-_, _%_, _≤_, _<_}
 use mathlib.Core.Path.{_≡_, refl, ap, ap₂, sym, _∙_}
-use mathlib.Core.Logic.{_⊎_, inl, inr}
-use mathlib.Core.Bool.{and-false, Bool, true, false, cond, not, _&&_, _||_, false≢true, or-true}
+use mathlib.Core.Bool.{and-false, Bool, true, false, cond, not, _&&_, _||_}
 use mathlib.Core.List.{List, [], _∷_, _++_}
 use native.Mathlib.Nat.{suc-sub-suc, sub-zero}
 use native.Mathlib.Omega.{arith}
-use borrow.Author.Tests.{eq-eqb, ne-eqb, eqb-true, eqb-false, le-leb, lt-leb, leb-true, lt-ltb, le-ltb}
-use lib.Dec.{leb, ltb, eqb}
+use borrow.Author.Tests.{eq-eqb, ne-eqb, le-leb, lt-leb, lt-ltb, le-ltb}
+use lib.Dec.{leb, eqb}
 use lib.ListN.{length, getD, take, drop, take-append-drop, length-take, length-drop, length-append, drop-of-length-le}
 use lib.Seq.{ext-getD, getD-take, getD-drop, drop-drop, take-nil}
 use Rattle.base.specs.Lists.{table, sum, copied}
-use Rattle.base.proofs.Bools.{and-parts}
-use Rattle.book.specs.Formula.{Formula, variableOf, literalWithin, sound}
+use Rattle.book.specs.Formula.{Formula, variableOf, literalWithin}
 use Rattle.book.specs.Numbers.{wellFormed, formulaOf, variablesOf, clausesOf}
 use Rattle.book.proofs.PartLaws.{length-clauses}
 use Rattle.book.proofs.WellFormedLaws.{well-formed-sound, well-formed-limited}
-use Rattle.run.specs.Trail.{Entry, opposite, literalAt, isTrue, isFalse, isAssigned, decisions}
-use Rattle.run.specs.Run.{Run, trailBehind, inConflict, openRun, decide, backtrack}
+use Rattle.run.specs.Trail.{opposite, literalAt, isTrue, isFalse, decisions}
+use Rattle.run.specs.Run.{Run, trailBehind, openRun, decide, backtrack}
 use Rattle.run.specs.Calls.{Call, decideRefusal, backtrackRefusal, maxBacktracks, reference}
 use Rattle.run.specs.Valid.{Valid}
 use Rattle.run.proofs.Propagation.{valid-structure}
@@ -26,14 +24,12 @@ use Rattle.run.proofs.Theorems.{open-valid, decide-valid, backtrack-valid, deci
 use Rattle.session.specs.Layout.{required, requiredLength, valuesAt, checksAt, encode, held}
 use Rattle.session.specs.Validation.{passes}
 use Rattle.session.specs.Outcomes
-use Rattle.session.specs.Outcomes.{after, propagatedAnswer, requiredAnswer, openRefusal, openAnswer, openNumbers, callRefusal, decisionRefusal, decideAnswer, decideNumbers, sessionBacktrackRefusal, backtrackAnswer, backtrackNumbers, lookupRefusal, lookupAnswer, assignedIn, readRefusal, figuresAnswer, figuresOf, totalAnswer, copyAnswer, copyNumbers, checksOfRun, replayAnswer, replayNumbers, playedNumbers}
-use Rattle.session.specs.Inner.Encodes.{TrailHeld, Encodes}
-use Rattle.session.specs.Inner.Stores.{valueRead, valueIn, Reads}
-use Rattle.session.specs.Inner.Engine.{SameBehind, Becomes, Holding}
+use Rattle.session.specs.Outcomes.{after, propagatedAnswer, requiredAnswer, openRefusal, openAnswer, openNumbers, callRefusal, decisionRefusal, decideAnswer, decideNumbers, sessionBacktrackRefusal, backtrackAnswer, backtrackNumbers, lookupRefusal, lookupAnswer, assignedIn, readRefusal, figuresAnswer, figuresOf, totalAnswer, copyAnswer, copyNumbers, replayAnswer, replayNumbers, playedNumbers}
+use Rattle.session.specs.Inner.Encodes.{Encodes}
+use Rattle.session.specs.Inner.Stores.{valueRead, valueIn}
+use Rattle.session.specs.Inner.Engine.{Becomes, Holding}
 use Rattle.session.specs.Inner.Public.{headAnswer}
-use Rattle.session.specs.declared.Answer.{Answer}
 use Rattle.session.specs.declared.Answer.the-variants as answer
-use Rattle.session.specs.declared.Back.{Back}
 use Rattle.session.specs.declared.Back.the-variants as back
 use Rattle.session.specs.declared.Assigned.{Assigned}
 use Rattle.session.specs.declared.Assigned.the-variants as assigned

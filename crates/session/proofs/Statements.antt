@@ -1,6 +1,6 @@
 -- Statements 2 and 3 of the service description, proved of the outcomes that the contracts cite.
 use Prim.Native.Nat.{ℕ}
-use mathlib.Core.Path.{_≡_, refl, ap, sym, _∙_}
+use mathlib.Core.Path.{_≡_, ap, sym, _∙_}
 use mathlib.Core.Bool.{true}
 use mathlib.Core.List.{List}
 use native.Mathlib.Omega.{arith}
@@ -14,7 +14,7 @@ use Rattle.run.specs.Valid.{Valid}
 use Rattle.run.proofs.Theorems.{open-valid, step-valid, reference-valid, assigned-is-closure, conflict-is-both-ways, conflict-clause-false}
 use Rattle.run.proofs.Ceiling.{ceiling-in-period, ceiling-in-all, units-cost-nothing}
 use Rattle.session.specs.Layout.{held}
-use Rattle.session.specs.Outcomes.{after, readRefusal, totalAnswer, openNumbers, callNumbers, replayNumbers, openRefusal}
+use Rattle.session.specs.Outcomes.{after, readRefusal, totalAnswer, openNumbers, callNumbers, openRefusal}
 use Rattle.session.specs.Statement.{Statement2, Statement3}
 use Rattle.session.specs.declared.Sum.the-variants.{Checks}
 use Rattle.session.proofs.EncodeLaws.{encodes-whole}

@@ -1,6 +1,6 @@
 -- The session numbers: where each part lies, the numbers of a run, and the run that numbers hold. docs/LAYOUT.md shows the same table.
 use Prim.Native.Nat.{ℕ, zero, suc, _+_, _*_, _-_, _/_, _%_}
-use mathlib.Core.Bool.{Bool, cond, not}
+use mathlib.Core.Bool.{cond, not}
 use mathlib.Core.List.{List, [], _∷_, _++_}
 use lib.Dec.{leb, eqb}
 use lib.ListN.{length, getD, take, drop}

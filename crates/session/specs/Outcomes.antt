@@ -1,6 +1,6 @@
 -- The outcomes of the calls: for each, its answer and the lent numbers afterwards. The refusal numbers are those of document 01's table.
-use Prim.Native.Nat.{ℕ, suc, _-_, _*_, _+_}
-use mathlib.Core.Bool.{Bool, cond, _&&_}
+use Prim.Native.Nat.{ℕ, suc, _-_, _+_}
+use mathlib.Core.Bool.{cond, _&&_}
 use mathlib.Core.List.{List, [], _∷_, _++_}
 use lib.Dec.{leb, ltb, eqb}
 use lib.ListN.{length, drop}

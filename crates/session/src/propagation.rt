@@ -1,6 +1,5 @@
 // Propagation: the trail literals that are not handled yet, each with the watch list of its opposite.
-ghost use mathlib.Core.Path.{_≡_};
-ghost use Prim.Native.Nat.{_+_, _*_, _-_, _≤_, _<_};
+ghost use Prim.Native.Nat.{_+_, _<_};
 ghost use Rattle.book.specs.Numbers.{formulaOf};
 ghost use Rattle.run.specs.Run as runs;
 ghost use Rattle.session.specs.Inner.Engine.{Propagating, Becomes};

@@ -1,7 +1,7 @@
 -- What the contracts of the private functions of the reader say: words, lines, gaps and steps of the cursor.
 use Prim.Native.Nat.{ℕ, _-_, _≤_, _<_}
 use mathlib.Core.Path.{_≡_}
-use mathlib.Core.Bool.{true, false, cond}
+use mathlib.Core.Bool.{true, false}
 use mathlib.Core.List.{List, [], _∷_, map}
 use lib.ListN.{length, getD, take, drop}
 use Rattle.base.specs.Lists.{begins}

@@ -1,5 +1,5 @@
 -- `answer_all` is safe and ends. The measure is the number of turns that are left. Assumes nothing.
-use mathlib.Core.Path.{_≡_, refl}
+use mathlib.Core.Path.{_≡_}
 use borrow.Author.Needs.{needs}
 use lib.ListN.{length}
 use Rattle.desk.proofs.answer_all.Statement.{statement}

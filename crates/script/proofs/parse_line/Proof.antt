@@ -1,7 +1,6 @@
 -- `parse_line` meets its contract: each return is a case of what a line asks for. Assumes nothing.
 use mathlib.Core.Path.{sym, _∙_}
 use native.Mathlib.Omega.{arith}
-use borrow.Author.Tests.{not-true, not-false}
 use Rattle.book.proofs.DecimalLaws.{value-below}
 use Rattle.script.proofs.LineLaws.{digits-behind, numbered-value, numbered-invalid, line-empty, line-negative, line-back, line-positive, back-none, back-unparted, back-parted}
 use borrow.Author.Needs.{needs}

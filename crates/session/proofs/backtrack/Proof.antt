@@ -1,8 +1,6 @@
 -- `backtrack` meets its contract. Assumes nothing.
-use mathlib.Core.Path.{_≡_, refl, ap, sym, _∙_}
-use native.Mathlib.Omega.{arith}
+use mathlib.Core.Path.{sym, _∙_}
 use borrow.Author.Needs.{needs}
-use borrow.Author.Tests.{not-true, not-false}
 use Rattle.session.proofs.PublicLaws.{back-refused, back-own, back-holding, back-done}
 use borrow.Author.Needs.{needs}
 use Rattle.session.proofs.backtrack.Statement.{statement}

@@ -1,8 +1,7 @@
 -- `backtrack_refusal` meets its contract. Assumes nothing.
-use mathlib.Core.Path.{_≡_, refl, ap, sym, _∙_}
+use mathlib.Core.Path.{sym, _∙_}
 use native.Mathlib.Omega.{arith}
 use borrow.Author.Needs.{needs}
-use borrow.Author.Tests.{not-true, not-false}
 use Rattle.session.proofs.PublicLaws.{back-refused-first, long, back-none, back-over, back-spent, back-accepted}
 use borrow.Author.Needs.{needs}
 use Rattle.session.proofs.backtrack_refusal.Statement.{statement}

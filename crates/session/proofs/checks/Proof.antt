@@ -1,8 +1,7 @@
 -- `checks` meets its contract. Assumes nothing.
-use mathlib.Core.Path.{_≡_, refl, ap, sym, _∙_}
+use mathlib.Core.Path.{ap, sym, _∙_}
 use native.Mathlib.Omega.{arith}
 use borrow.Author.Needs.{needs}
-use borrow.Author.Tests.{not-true, not-false}
 use Rattle.session.proofs.PublicLaws.{copy-refused, copy-is, checks-part, checks-count, well, long, needed-is, few-variables, few-clauses}
 use Rattle.session.specs.Outcomes.{checksOfRun}
 use lib.ListN.{length}

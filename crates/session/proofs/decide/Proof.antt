@@ -1,8 +1,7 @@
 -- `decide` meets its contract. Assumes nothing.
-use mathlib.Core.Path.{_≡_, refl, ap, sym, _∙_}
+use mathlib.Core.Path.{sym, _∙_}
 use native.Mathlib.Omega.{arith}
 use borrow.Author.Needs.{needs}
-use borrow.Author.Tests.{not-true, not-false}
 use Rattle.session.proofs.PublicLaws.{decide-refused, decide-own, decide-done, decide-grows, decide-holding, decide-room, decide-long}
 use borrow.Author.Needs.{needs}
 use Rattle.session.proofs.decide.Statement.{statement}

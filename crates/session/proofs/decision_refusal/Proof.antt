@@ -1,10 +1,9 @@
 -- `decision_refusal` meets its contract. Assumes nothing.
-use mathlib.Core.Path.{_≡_, refl, ap, sym, _∙_}
+use mathlib.Core.Path.{_≡_, sym, _∙_}
 use Prim.Native.Nat.{ℕ}
 use native.Mathlib.Omega.{arith}
 use Rattle.session.specs.declared.trail.Value.the-variants.{True, False}
 use borrow.Author.Needs.{needs}
-use borrow.Author.Tests.{not-true, not-false}
 use Rattle.session.proofs.PublicLaws.{decision-first, few-variables, long, value-answers, literal-low, literal-high, decision-conflict, decision-open, decision-assigned}
 use borrow.Author.Needs.{needs}
 use Rattle.session.proofs.decision_refusal.Statement.{statement}

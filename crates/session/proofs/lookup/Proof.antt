@@ -1,8 +1,7 @@
 -- `lookup` meets its contract. Assumes nothing.
-use mathlib.Core.Path.{_≡_, refl, ap, sym, _∙_}
+use mathlib.Core.Path.{ap, sym, _∙_}
 use native.Mathlib.Omega.{arith}
 use borrow.Author.Needs.{needs}
-use borrow.Author.Tests.{not-true, not-false}
 use Prim.Native.Nat.{_*_}
 use Rattle.session.proofs.PublicLaws.{lookup-refused, variable-none, variable-over, variable-is, shownAs, few-variables, long, value-answers}
 use borrow.Author.Needs.{needs}

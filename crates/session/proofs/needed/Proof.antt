@@ -1,8 +1,6 @@
 -- `needed` meets its contract. Assumes nothing.
-use mathlib.Core.Path.{_≡_, refl, ap, sym, _∙_}
 use native.Mathlib.Omega.{arith}
 use borrow.Author.Needs.{needs}
-use borrow.Author.Tests.{not-true, not-false}
 use Rattle.book.proofs.WellFormedLaws.{well-formed-limited}
 use Rattle.session.proofs.PublicLaws.{needed-is}
 use borrow.Author.Needs.{needs}

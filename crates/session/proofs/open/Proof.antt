@@ -1,8 +1,7 @@
 -- `open` meets its contract. Assumes nothing.
-use mathlib.Core.Path.{_≡_, refl, ap, sym, _∙_}
+use mathlib.Core.Path.{sym, _∙_}
 use native.Mathlib.Omega.{arith}
 use borrow.Author.Needs.{needs}
-use borrow.Author.Tests.{not-true, not-false}
 use Rattle.session.proofs.CallLaws.{open-accepted}
 use Rattle.session.proofs.PublicLaws.{open-refused, open-done}
 use borrow.Author.Needs.{needs}

@@ -1,11 +1,9 @@
 -- `total` meets its contract. Assumes nothing.
-use mathlib.Core.Path.{_≡_, refl, ap, sym, _∙_}
+use mathlib.Core.Path.{ap, sym, _∙_}
 use native.Mathlib.Omega.{arith}
 use borrow.Author.Needs.{needs}
-use borrow.Author.Tests.{not-true, not-false}
 use Rattle.session.proofs.PublicLaws.{total-refused, total-is, checks-part, checks-count, well, long, needed-is, few-variables, few-clauses}
 use Rattle.base.specs.Lists.{sum}
-use lib.ListN.{length}
 use borrow.Author.Needs.{needs}
 use Rattle.session.proofs.total.Statement.{statement}
 use Rattle.session.proofs.total.Tie as tie

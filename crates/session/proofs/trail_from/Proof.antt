@@ -1,12 +1,11 @@
 -- `trail_from` meets its contract. Assumes nothing.
-use mathlib.Core.Path.{_≡_, refl, ap, sym, _∙_}
+use mathlib.Core.Path.{refl, ap, sym, _∙_}
 use Prim.Native.Nat.{ℕ, _+_}
 use native.Mathlib.Omega.{arith}
 use borrow.Author.Needs.{needs}
-use borrow.Author.Tests.{not-true, not-false}
-use Rattle.session.proofs.PublicLaws.{copy-refused, copy-is, trail-behind, trail-none, long, count-is, count-within, trail-room}
+use Rattle.session.proofs.PublicLaws.{copy-refused, copy-is, trail-behind, trail-none, long, count-within, trail-room}
 use Rattle.run.specs.Run.{trailBehind}
-use lib.ListN.{length, length-take, length-drop}
+use lib.ListN.{length-take, length-drop}
 use borrow.Author.Needs.{needs}
 use Rattle.session.proofs.trail_from.Statement.{statement}
 use Rattle.session.proofs.trail_from.Tie as tie

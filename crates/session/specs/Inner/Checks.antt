@@ -1,13 +1,13 @@
 -- What the contracts of the private functions of the validation say: each answers whether one condition holds of the numbers.
-use Prim.Native.Nat.{ℕ, _+_, _*_, _≤_, _<_}
+use Prim.Native.Nat.{ℕ, _≤_, _<_}
 use mathlib.Core.Path.{_≡_}
 use mathlib.Core.Bool.{Bool, true, false, cond}
 use mathlib.Core.List.{List, map}
-use lib.ListN.{length, getD}
+use lib.ListN.{getD}
 use Rattle.base.specs.Lists.{member, distinct, times}
 use Rattle.book.specs.Formula.{Formula, variableOf, literalWithin}
 use Rattle.run.specs.Trail.{Entry, isTrue, isFalse, lowered}
-use Rattle.run.specs.Run.{Run, clauseOf, size, noCell, cellOf, listOf}
+use Rattle.run.specs.Run.{clauseOf, size, noCell, cellOf, listOf}
 use Rattle.run.specs.Valid.{Watching, standing, Fixpoint}
 use Rattle.session.specs.Layout.{heldTrail, held}
 use Rattle.session.specs.Inner.Encodes.{TrailHeld, WatchesHeld}

@@ -1,17 +1,13 @@
 -- The relation between session numbers and the run that they hold, which the private contracts speak of.
-use Prim.Native.Nat.{ℕ, suc, _+_, _*_, _-_, _/_, _%_, _≤_, _<_}
+use Prim.Native.Nat.{ℕ, suc, _+_, _*_, _-_, _/_, _≤_, _<_}
 use mathlib.Core.Path.{_≡_}
-use mathlib.Core.Bool.{Bool, true, cond}
-use mathlib.Core.List.{List, [], _∷_, _++_, map}
-use lib.Dec.{eqb}
-use lib.ListN.{length, getD, set}
-use Rattle.book.specs.Formula.{Formula, variableOf}
-use Rattle.book.specs.Numbers.{variablesOf, clausesOf, formulaOf, wellFormed}
-use Rattle.run.specs.Trail.{Entry, literalAt, isTrue, isFalse, decisions}
+use mathlib.Core.List.{List, [], _∷_, map}
+use lib.ListN.{length, getD}
+use Rattle.book.specs.Formula.{Formula}
+use Rattle.run.specs.Trail.{Entry, literalAt, decisions}
 use Rattle.run.specs.Scan.{Cell}
 use Rattle.run.specs.Run.{Run, size, listOf}
-use Rattle.run.proofs.Propagation.{Going}
-use Rattle.session.specs.Layout.{trailAt, levelsAt, valuesAt, headsAt, watchesAt, pointersAt, linksAt, checksAt, required, requiredLength, valueNumber, levelNumber, cellAt, nodeOf}
+use Rattle.session.specs.Layout.{trailAt, levelsAt, valuesAt, headsAt, watchesAt, pointersAt, linksAt, checksAt, requiredLength, valueNumber, levelNumber, cellAt, nodeOf}
 
 -- the place of a list's head, and of a node's link
 abbrev pub headSlot : ℕ → ℕ → ℕ

@@ -1,16 +1,15 @@
 -- What the contracts of the private functions that propagate say: of a visit, of propagation, of opening, decision and backtrack.
-use Prim.Native.Nat.{ℕ, suc, _+_, _*_, _-_, _≤_, _<_}
+use Prim.Native.Nat.{ℕ, _+_, _-_, _≤_, _<_}
 use mathlib.Core.Path.{_≡_}
 use mathlib.Core.Logic.{_⊎_}
-use mathlib.Core.Bool.{Bool, true}
+use mathlib.Core.Bool.{true}
 use mathlib.Core.List.{List, [], _∷_, _++_}
-use mathlib.Core.Option.{Option, none, some}
+use mathlib.Core.Option.{none, some}
 use lib.ListN.{length, getD, drop}
 use Rattle.book.specs.Formula.{Formula, variableOf}
 use Rattle.book.specs.Numbers.{formulaOf, wellFormed}
-use Rattle.run.specs.Scan.{Cell, Scanned}
-use Rattle.run.specs.Run.{Run, listOf, visit, inConflict, propagate, fresh, assignUnits, openRun, decide, backtrack}
-use Rattle.run.specs.Calls.{decideRefusal, backtrackRefusal}
+use Rattle.run.specs.Scan.{Scanned}
+use Rattle.run.specs.Run.{Run, listOf, visit, inConflict, propagate, backtrack}
 use Rattle.run.specs.Valid.{Valid}
 use Rattle.run.proofs.Propagation.{Going, Ended, Reading}
 use Rattle.session.specs.Layout.{requiredLength, nodeOf}

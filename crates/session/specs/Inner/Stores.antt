@@ -1,10 +1,10 @@
 -- What the private functions that store to a session leave in it, as numbers.
-use Prim.Native.Nat.{ℕ, suc, _+_, _*_, _-_, _/_, _%_, _≤_}
+use Prim.Native.Nat.{ℕ, _+_, _*_, _-_, _%_, _≤_}
 use mathlib.Core.Path.{_≡_}
-use mathlib.Core.Bool.{Bool, cond}
+use mathlib.Core.Bool.{cond}
 use mathlib.Core.List.{List}
 use lib.Dec.{eqb}
-use lib.ListN.{length, getD, set, drop}
+use lib.ListN.{length, getD, set}
 use Rattle.book.specs.Formula.{variableOf}
 use Rattle.run.specs.Trail.{Entry, isTrue, isFalse}
 use Rattle.session.specs.Layout.{trailAt, levelsAt, valuesAt}

@@ -1,6 +1,5 @@
 -- `put_all` meets its contract: the bytes before i are written. Assumes nothing.
 use Prim.Native.Nat.{_-_}
-use native.Mathlib.Omega.{arith}
 use borrow.Author.Needs.{needs}
 use lib.ListN.{length}
 use Rattle.script.proofs.WritingLaws.{Putting, putting-none, putting-more, putting-all}

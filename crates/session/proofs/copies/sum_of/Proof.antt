@@ -1,8 +1,6 @@
 -- `sum_of` meets its contract. Assumes nothing.
-use mathlib.Core.Path.{_≡_, refl, ap, sym, _∙_}
 use native.Mathlib.Omega.{arith}
 use borrow.Author.Needs.{needs}
-use borrow.Author.Tests.{not-true, not-false}
 use Prim.Native.Nat.{_-_}
 use lib.ListN.{length}
 use Rattle.session.proofs.CopyLaws.{Summed, summed-none, summed-more, summed-all}
