@@ -18,7 +18,7 @@ last-digit : (places n : ℕ) → 10 ≤ n → digits (suc places) n ≡ digits 
 unfolding digits
 last-digit places n h = rw (le-ltb n 10 h)
 
-digits-enough : (p q n : ℕ) → n < 10 ^ suc p → n < 10 ^ suc q → digits (suc p) n ≡ digits (suc q) n
+pub digits-enough : (p q n : ℕ) → n < 10 ^ suc p → n < 10 ^ suc q → digits (suc p) n ≡ digits (suc q) n
 digits-enough zero q n hp hq = one-digit zero n (omega arith) ∙ sym (one-digit q n (omega arith))
 digits-enough (suc p) zero n hp hq = one-digit (suc p) n (omega arith) ∙ sym (one-digit zero n (omega arith))
 digits-enough (suc p) (suc q) n hp hq =

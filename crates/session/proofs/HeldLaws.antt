@@ -176,6 +176,12 @@ module _ (formula : Formula) (s : sound formula ≡ true) (numbers : List ℕ) (
       (λ d. ⊎-elim (λ k. omega (arith, listed-once formula s w l d k)) (λ k. omega arith) (below 0 (times d (listOf lists l))))
       (λ d k. clause-exists formula d (omega (arith, listed-size w l d k)))
 
+  -- from the head of a literal its list is read, with any fuel for all clauses
+  pub list-held : WatchesHeld formula numbers cells lists → (l fuel : ℕ) → 2 ≤ l → l ≤ 2 * v + 1 → c ≤ fuel
+      → chainFrom v c numbers fuel (getD numbers (headSlot v l) 0) ≡ listOf lists l
+  list-held held l fuel low high enough =
+      chain-held v c numbers formula cells l fuel (headSlot v l) (listOf lists l) (let few = short-list l in omega arith) (held .chains l low high)
+
   lists-held : WatchesHeld formula numbers cells lists → [] ∷ [] ∷ heldLists v c numbers 0 (2 * v) ≡ lists
   lists-held held =
       ext-getD [] ([] ∷ [] ∷ heldLists v c numbers 0 (2 * v)) lists
@@ -190,9 +196,7 @@ module _ (formula : Formula) (s : sound formula ≡ true) (numbers : List ℕ) (
           let same : headsAt v + (0 + i) ≡ headSlot v (suc (suc i)) = omega arith in
           getD-lists v c numbers 0 (2 * v) i k
           ∙ ap (λ (j : ℕ). chainFrom v c numbers (2 * c) (getD numbers j 0)) same
-          ∙ chain-held v c numbers formula cells (suc (suc i)) (2 * c) (headSlot v (suc (suc i))) (listOf lists (suc (suc i)))
-          (let few = short-list (suc (suc i)) in omega arith)
-          (held .chains (suc (suc i)) (omega arith) (omega arith))
+          ∙ list-held held (suc (suc i)) (2 * c) (omega arith) (omega arith) (omega arith)
 
 -- all of the run
 same-run : {trail : List Entry} {cells : List Cell} {lists : List (List ℕ)} {conflict : ℕ} {checks : List ℕ} {backtracks : ℕ} (run : Run)

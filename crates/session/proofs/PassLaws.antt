@@ -1,23 +1,25 @@
 -- A lent session passes the validation exactly if it holds a valid run.
-use Prim.Native.Nat.{ℕ}
+use Prim.Native.Nat.{ℕ, _+_, _*_, _-_, _≤_}
+use native.Mathlib.Omega.{arith}
 use mathlib.Core.Bool.{Bool, true, _&&_}
 use mathlib.Core.List.{List, _++_}
 use mathlib.Core.Logic.{_↔_}
 use mathlib.Core.Path.{_≡_}
 use borrow.Author.Tests.{leb-true, le-leb}
 use lib.Dec.{leb}
-use lib.ListN.{length, take}
+use lib.ListN.{length, getD, take}
 use Rattle.base.specs.Lists.{same}
 use Rattle.base.proofs.Bools.{and-parts, both}
 use Rattle.book.specs.Formula.{Formula, sound}
-use Rattle.run.specs.Run.{Run}
+use Rattle.run.specs.Run.{Run, listOf}
 use Rattle.run.specs.Valid.{Valid}
-use Rattle.session.specs.Layout.{requiredLength, encode, held}
+use Rattle.run.proofs.Propagation.{valid-structure}
+use Rattle.session.specs.Layout.{headsAt, requiredLength, encode, chainFrom, held}
 use Rattle.session.specs.Validation.{isValid, passes}
 use Rattle.session.specs.Inner.Encodes.{Encodes}
 use Rattle.base.proofs.ForAll.{same-equal, equal-same}
 use Rattle.session.proofs.EncodeLaws.{encodes-encode, encoded-encodes, encode-encodes}
-use Rattle.session.proofs.HeldLaws.{held-encodes}
+use Rattle.session.proofs.HeldLaws.{held-encodes, list-held}
 use Rattle.session.proofs.ValidLaws.{valid-test}
 
 module _ (formula : Formula) (s : sound formula ≡ true) (numbers : List ℕ) where
@@ -51,6 +53,15 @@ module _ (formula : Formula) (s : sound formula ≡ true) (numbers : List ℕ) w
 
   pub passes-iff : (passes formula numbers ≡ true) ↔ (Valid formula (held formula numbers) × Encodes formula numbers (held formula numbers))
   passes-iff = (passes-said, passes-tests)
+
+  -- the fuel of a chain never runs out where the numbers pass: with any more the list that is held is the same
+  pub chain-fuel-suffices : passes formula numbers ≡ true → (l fuel : ℕ) → 2 ≤ l → l ≤ 2 * formula .variables + 1
+      → 2 * length (formula .clauses) ≤ fuel
+      → chainFrom (formula .variables) (length (formula .clauses)) numbers fuel (getD numbers (headsAt (formula .variables) + (l - 2)) 0)
+      ≡ listOf (run .lists) l
+  chain-fuel-suffices e l fuel low high enough =
+      let facts = passes-said e in
+      list-held formula s numbers (run .cells) (run .lists) (valid-structure (facts .0) .watched) (facts .1 .watches) l fuel low high (omega arith)
 
 -- numbers that hold a valid run pass, and so do its own, whatever lies behind them
 pub passes-holding : (formula : Formula) → sound formula ≡ true → (run : Run) → Valid formula run → (numbers : List ℕ)

@@ -124,7 +124,7 @@ heldCells v c numbers from (suc n) =
       pointer = getD numbers (pointersAt v c + from) 0;
     } ∷ heldCells v c numbers (suc from) n
 
--- the clauses of the nodes of a chain from a node on; no chain is longer than the number of nodes
+-- the clauses of the nodes of a chain from a node on, for at most so many nodes; of numbers that pass, all (`chain-fuel-suffices`)
 unfoldable pub chainFrom : ℕ → ℕ → List ℕ → ℕ → ℕ → List ℕ
 chainFrom v c numbers zero node = []
 chainFrom v c numbers (suc fuel) node =
