@@ -118,8 +118,8 @@ fn clauses_sound(book: &[u32], variables: usize, clauses: usize) -> bool
     let mut tag = 0u16;
     let mut c = 0;
     while c < clauses {
-        let start = clause_start(book, c);
-        let end = clause_start(book, c + 1);
+        let start = clauses + 4 + wide(book[3 + c]);
+        let end = clauses + 4 + wide(book[4 + c]);
         tag += 1;
         if !clause_sound(&book[start..end], variables, tag, &mut marks) {
             return false;

@@ -84,27 +84,37 @@ fn starts(book: &mut [u32], clauses: u32, n: u32, literals: u32) {
     store(book, wide(c) + 3, literals);
 }
 
-// The literals 2, 4, .. 2 n, again and again.
-fn literals_behind(book: &mut [u32], clauses: u32, n: u32, literals: u32) {
-    let mut literal = 2;
+// Literals from the first on, a step apart, and from the first again behind the last.
+fn literals_behind(
+    book: &mut [u32],
+    clauses: u32,
+    literals: u32,
+    first: u32,
+    step: u32,
+    last: usize,
+) {
+    let mut literal = first;
     let mut i = 0;
     while i < literals {
         store(book, wide(clauses) + 4 + wide(i), literal);
-        if literal / 2 < n {
-            literal = std::num::wrapping_add_u32(literal, 2);
-        } else {
-            literal = 2;
+        literal = std::num::wrapping_add_u32(literal, step);
+        if last < wide(literal) {
+            literal = first;
         }
         i += 1;
     }
 }
 
-// The book numbers of clauses of n literals each, the last one perhaps shorter. Answers how many they are.
-pub fn book(space: &mut [u32], variables: u32, clauses: u32, n: u32, literals: u32) -> usize {
-    store(space, 0, variables);
+// The book numbers of clauses of equal length, the last one perhaps shorter. The sizes are V, C, the literals of a clause, L,
+// the first literal and the step to the next. Answers how many they are.
+pub fn book(space: &mut [u32], sizes: &[u32; 6]) -> usize {
+    let clauses = sizes[1];
+    let literals = sizes[3];
+    let last = 2 * wide(sizes[0]) + 1;
+    store(space, 0, sizes[0]);
     store(space, 1, clauses);
     store(space, 2, literals);
-    starts(space, clauses, n, literals);
-    literals_behind(space, clauses, n, literals);
+    starts(space, clauses, sizes[2], literals);
+    literals_behind(space, clauses, literals, sizes[4], sizes[5], last);
     wide(clauses) + 4 + wide(literals)
 }

@@ -29,17 +29,17 @@ fn ranges() {
     );
     run(
         Kind::BuiltForm,
-        b"C 1500|1 1500 1 1500;\
-        C 1501|1 1501 1 1501",
+        b"C 1500|1 1500 1 1500 2 2;\
+        C 1501|1 1501 1 1501 2 2",
     );
     run(Kind::Form, b"C 4294967295|1 4294967295 0 0");
     run(
         Kind::BuiltForm,
-        b"L 6000|250 24 250 6000;\
-        L 6001|250 25 250 6001",
+        b"L 6000|250 24 250 6000 2 2;\
+        L 6001|250 25 250 6001 2 2",
     );
     run(Kind::Form, b"L 4294967295|1 1 4294967295 0 4294967295 2");
-    run(Kind::BuiltForm, b"C 1500 and L 6000|4 1500 4 6000");
+    run(Kind::BuiltForm, b"C 1500 and L 6000|4 1500 4 6000 2 2");
 }
 
 // The starts.
@@ -58,8 +58,8 @@ fn starts() {
     );
     run(
         Kind::BuiltForm,
-        b"start that rises by 255|255 1 255 255;\
-        start that rises by 256|256 1 256 256",
+        b"start that rises by 255|255 1 255 255 2 2;\
+        start that rises by 256|256 1 256 256 2 2",
     );
 }
 

@@ -1,4 +1,4 @@
-// Tables of trials: rows parted by `;`, their fields by `|`.
+// Tables of trials: rows parted by `;`, their fields by `|`, the words of a field by blanks.
 ghost use Prim.Native.Nat.{_≤_, _<_};
 ghost use lib.ListN.{length};
 ghost use mathlib.Core.Path.{_≡_};
@@ -38,22 +38,29 @@ pub fn find(bytes: &[u8], at: usize, byte: u8) -> usize
     i
 }
 
-// Field k of a row, from 0; empty where there is none.
-pub fn field(row: &[u8], k: u32) -> Span
+// Part k of a row, from 0, where its parts are parted by a byte; empty where there is none.
+fn part(row: &[u8], byte: u8, k: u32) -> Span
     ensures { λ r. ⌜ (r .from ≤ r .to) × (r .to ≤ length (now (row .entry))) ⌝ }
 {
     let mut from = 0;
     let mut left = k;
     while left > 0 {
-        let bar = find(row, from, b'|');
-        if bar == row.len() {
-            return Span { from: bar, to: bar };
+        let end = find(row, from, byte);
+        if end == row.len() {
+            return Span { from: end, to: end };
         }
-        from = bar + 1;
+        from = end + 1;
         left -= 1;
     }
-    let to = find(row, from, b'|');
+    let to = find(row, from, byte);
     Span { from, to }
+}
+
+// Field k of a row.
+pub fn field(row: &[u8], k: u32) -> Span
+    ensures { λ r. ⌜ (r .from ≤ r .to) × (r .to ≤ length (now (row .entry))) ⌝ }
+{
+    part(row, b'|', k)
 }
 
 fn byte_value(byte: u8) -> u64
@@ -89,6 +96,14 @@ pub fn number_at(row: &[u8], k: u32) -> u32 {
     number(&row[from..to])
 }
 
+// Word k of a field as a number.
+pub fn word(field: &[u8], k: u32) -> u32 {
+    let span = part(field, b' ', k);
+    let from = span.from;
+    let to = span.to;
+    number(&field[from..to])
+}
+
 // The numbers of a list, parted by blanks, as far as they fit; answers how many they are.
 pub fn numbers(list: &[u8], out: &mut [u32]) -> usize
     ensures { λ r. ⌜ r ≤ length (now (out .entry)) ⌝ }
@@ -118,4 +133,15 @@ pub fn numbers_at(row: &[u8], k: u32, out: &mut [u32]) -> usize
     let from = span.from;
     let to = span.to;
     numbers(&row[from..to], out)
+}
+
+// The words of a field behind its first one as numbers.
+pub fn numbers_behind(field: &[u8], out: &mut [u32]) -> usize
+    ensures { λ r. ⌜ r ≤ length (now (out .entry)) ⌝ }
+{
+    let blank = find(field, 0, b' ');
+    if blank < field.len() {
+        return numbers(&field[blank + 1..], out);
+    }
+    0
 }

@@ -1,5 +1,12 @@
 // Trials: each row of a table prints one line, what was tried and what came.
 use crate::build;
+use crate::printing::print;
+use crate::printing::print_field;
+use crate::printing::print_number;
+use crate::printing::print_numbers;
+use crate::sessions;
+use crate::space::LENT;
+use crate::space::untouched;
 use crate::table::field;
 use crate::table::find;
 use crate::table::number_at;
@@ -17,28 +24,16 @@ pub enum Kind {
     Buffer,
     // book numbers
     Form,
-    // V, C, the literals of a clause, L
+    // the sizes of a book that is built
     BuiltForm,
     // a clause, and book numbers
     Clause,
-}
-
-// What the lent numbers hold before a trial.
-const LENT: u32 = 4_000_000_000;
-
-fn print(bytes: &[u8]) {
-    io::write_all(1, bytes);
-}
-
-fn print_number(number: usize) {
-    io::print_decimal(1, number as u64);
-}
-
-fn print_field(row: &[u8], k: u32) {
-    let span = field(row, k);
-    let from = span.from;
-    let to = span.to;
-    print(&row[from..to]);
+    // steps of a session on the book and behind the calls of the table's base
+    Based,
+    // a text, and steps of a session on its book
+    Session,
+    // the sizes of a book that is built, and steps of a session on it
+    BuiltSession,
 }
 
 // Prints V, C and L.
@@ -49,31 +44,6 @@ fn print_sizes(variables: usize, clauses: usize, literals: usize) {
     print_number(clauses);
     print(b" L ");
     print_number(literals);
-}
-
-// Prints the first n numbers.
-fn print_numbers(numbers: &[u32], n: usize) {
-    print(b", numbers");
-    let mut i = 0;
-    while i < numbers.len() {
-        if i < n {
-            print(b" ");
-            print_number(wide(numbers[i]));
-        }
-        i += 1;
-    }
-}
-
-// The lent numbers from a place on are as they were before the trial.
-fn untouched(buffer: &[u32], from: usize) -> bool {
-    let mut i = from;
-    while i < buffer.len() {
-        if buffer[i] != LENT {
-            return false;
-        }
-        i += 1;
-    }
-    true
 }
 
 // Reads a text into lent numbers and prints the answer; answers how many numbers the book has, 0 at a refusal.
@@ -138,6 +108,13 @@ fn print_rest(buffer: &[u32], from: usize, said: &[u8]) {
     }
 }
 
+// Prints the first n numbers.
+fn print_first(numbers: &[u32], n: usize) {
+    if n <= numbers.len() {
+        print_numbers(&numbers[0..n]);
+    }
+}
+
 // Reads a text into the first numbers of a space, and prints what they hold.
 fn read_into(text: &[u8], room: usize, space: &mut [u32]) {
     if room <= space.len() {
@@ -145,7 +122,8 @@ fn read_into(text: &[u8], room: usize, space: &mut [u32]) {
         if written == 0 {
             print_rest(space, 0, b", lent numbers untouched");
         } else {
-            print_numbers(space, written);
+            print(b", numbers");
+            print_first(space, written);
             if written < room {
                 print_rest(space, written, b", the rest untouched");
             }
@@ -180,10 +158,10 @@ fn form(row: &[u8]) {
 }
 
 fn built_form(row: &[u8]) {
-    let mut sizes = [0u32; 4];
+    let mut sizes = [0u32; 6];
     numbers_at(row, 1, &mut sizes);
     let mut space = [0u32; 7504];
-    let n = build::book(&mut space, sizes[0], sizes[1], sizes[2], sizes[3]);
+    let n = build::book(&mut space, &sizes);
     print_form(&space, n);
 }
 
@@ -230,36 +208,65 @@ fn about_numbers(row: &[u8], kind: Kind) {
     }
 }
 
-fn trial(kind: Kind, row: &[u8]) {
+fn about_session(base: &[u8], row: &[u8], kind: Kind) {
+    print_field(row, 0);
+    match kind {
+        Kind::Based => {
+            sessions::on_base(base, row);
+        }
+        Kind::Session => {
+            sessions::on_text(row);
+        }
+        _ => {
+            sessions::on_built(row);
+        }
+    }
+}
+
+fn about_text(row: &[u8], kind: Kind) {
+    print_field(row, 0);
     match kind {
         Kind::Text => {
-            print_field(row, 0);
             text(row);
         }
         Kind::Built => {
-            print_field(row, 0);
             built(row);
         }
-        Kind::Buffer => {
-            print_field(row, 0);
+        _ => {
             buffer(row);
         }
-        _ => {
+    }
+}
+
+fn trial(kind: Kind, base: &[u8], row: &[u8]) {
+    match kind {
+        Kind::Text | Kind::Built | Kind::Buffer => {
+            about_text(row, kind);
+        }
+        Kind::Form | Kind::BuiltForm | Kind::Clause => {
             about_numbers(row, kind);
+        }
+        _ => {
+            about_session(base, row, kind);
         }
     }
     print(b"\n");
 }
 
-// Every row of a table.
-pub fn run(kind: Kind, table: &[u8]) {
+// Every row of a table. The base is what its rows have in common.
+pub fn run_on(kind: Kind, base: &[u8], table: &[u8]) {
     let mut at = 0;
     while at < table.len() {
         let end = find(table, at, b';');
-        trial(kind, &table[at..end]);
+        trial(kind, base, &table[at..end]);
         if end == table.len() {
             return;
         }
         at = end + 1;
     }
+}
+
+// Every row of a table whose rows have nothing in common.
+pub fn run(kind: Kind, table: &[u8]) {
+    run_on(kind, b"", table);
 }

@@ -51,10 +51,30 @@ sound-within v clause s = all-at (literalWithin v) clause 0 (clause-parts v clau
 module _ (trail : List Entry) (clause : List ℕ) where
   pub true-found : (i r : ℕ) → i < length clause → r ≡ place trail (getD clause i 0) → (r ≡ 0 → ⊥) → TruePlace trail clause r
   true-found i r h e on =
-      record { yes = λ _. (getD clause i 0, member-at clause i h, sym e); no = λ z. absurd (on z) }
+      record { yes = λ _. (getD clause i 0, member-at clause i h, sym e); none = λ z. absurd (on z) }
+
+  -- a clause with a literal that is neither true nor false implies nothing, and no more does one without a true literal
+  pub true-open : (i p q : ℕ) → i < length clause → p ≡ place trail (getD clause i 0) → p ≡ 0 → q ≡ place trail (opposite (getD clause i 0)) → q ≡ 0
+      → TruePlace trail clause 0
+  true-open i p q h here off there unset =
+      record {
+        yes = λ z. absurd (omega arith);
+        none = λ _ k x.
+            let on = x .on in
+            let before = x .others (getD clause i 0) (member-at clause i h) (λ e. absurd (omega arith)) in
+            omega arith;
+      }
 
   pub true-none : ((i : ℕ) → i < length clause → place trail (getD clause i 0) ≡ 0) → TruePlace trail clause 0
-  true-none h = record { yes = λ z. absurd (omega arith); no = λ _. at-members clause (λ m. place trail m ≡ 0) h }
+  true-none h =
+      record {
+        yes = λ z. absurd (omega arith);
+        none = λ _ k x.
+            let off = at-members clause (λ m. place trail m ≡ 0) h (x .literal) (x .holds) in
+            let there = x .there in
+            let on = x .on in
+            omega arith;
+      }
 
   module _ (once : distinct (variables trail) ≡ true) (r : ℕ) (found : TruePlace trail clause r) where
     -- the only place that a clause can imply is that of a true literal
@@ -62,11 +82,7 @@ module _ (trail : List Entry) (clause : List ℕ) where
     implied-only h p = go (below 0 r)
       where
         go : (0 < r) ⊎ (r ≤ 0) → h ≡ r
-        go (inr z) =
-            let e = found .no (omega arith) (p .literal) (p .holds) in
-            let there = p .there in
-            let on = p .on in
-            absurd (omega arith)
+        go (inr z) = absurd (found .none (omega arith) h p)
         go (inl some) = same (found .yes some)
           where
             same : (m : ℕ) × (member m clause ≡ true) × (place trail m ≡ r) → h ≡ r

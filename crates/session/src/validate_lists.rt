@@ -8,6 +8,7 @@ ghost use Rattle.session.specs.Layout.{requiredLength};
 ghost use Rattle.session.specs.Validation.{isWatching};
 ghost use Rattle.session.specs.Inner.Checks.{Says, CellsGood, ListsGood};
 ghost use Rattle.session.specs.Inner.Links.{ownerIn, Looking, Marks, ListSays, AllSays, NodeGood, NodesGood};
+use crate::clauses::clause_start;
 use crate::lists::head_slot;
 use crate::lists::link_slot;
 use crate::trail::wide;
@@ -50,7 +51,7 @@ pub(crate) fn cells_pass(book: &[u32], session: &[u32]) -> bool
     let pointers = watches + 2 * clauses;
     let mut c = 0;
     while c < clauses {
-        let n = book::clause_start(book, c + 1) - book::clause_start(book, c);
+        let n = clause_start(book, c + 1) - clause_start(book, c);
         if !cell_passes(
             n,
             session[watches + 2 * c],
@@ -71,8 +72,8 @@ fn owner(book: &[u32], session: &[u32], node: u32) -> u32
     ensures { λ r. ⌜ r ≡ ownerIn (now (book .entry)) (now (session .entry)) node ⌝ }
 {
     let clause = wide((node - 1) / 2);
-    let start = book::clause_start(book, clause);
-    let end = book::clause_start(book, clause + 1);
+    let start = clause_start(book, clause);
+    let end = clause_start(book, clause + 1);
     if end - start < 2 {
         return 0;
     }

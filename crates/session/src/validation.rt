@@ -13,6 +13,7 @@ ghost use Rattle.session.specs.Layout.{held};
 ghost use Rattle.session.specs.Validation.{passes};
 ghost use Rattle.session.specs.Inner.Checks.{Says, CellsGood, FixpointOn, AllFalse};
 ghost use Rattle.session.specs.Inner.Validating.{Readable, Validated, trailOf, trailOn, height, Before, TruePlace, ImpliedPlace, ImpliedMarked, ClauseFixpoint};
+use crate::clauses::clause_start;
 use crate::trail::opposite;
 use crate::trail::wide;
 use crate::validate_lists::cells_pass;
@@ -32,7 +33,7 @@ fn place_of(session: &[u32], variables: usize, literal: u32) -> usize
     0
 }
 
-// The place of the first true literal of a clause, 0 where none is true.
+// The place of a true literal of a clause with only false ones before it, 0 where the clause implies none: one is open, or all are false.
 fn true_place(clause: &[u32], session: &[u32], variables: usize) -> usize
     requires { ⌜ Readable variables (now session) ⌝ }
     requires { ⌜ soundClause variables (now clause) ≡ true ⌝ }
@@ -43,6 +44,9 @@ fn true_place(clause: &[u32], session: &[u32], variables: usize) -> usize
         let place = place_of(session, variables, clause[i]);
         if place != 0 {
             return place;
+        }
+        if place_of(session, variables, opposite(clause[i])) == 0 {
+            return 0;
         }
         i += 1;
     }
@@ -116,8 +120,8 @@ pub(crate) fn justified(book: &[u32], session: &[u32]) -> bool
     let mut marks = [0u8; 501];
     let mut c = 0;
     while c < clauses {
-        let start = book::clause_start(book, c);
-        let end = book::clause_start(book, c + 1);
+        let start = clause_start(book, c);
+        let end = clause_start(book, c + 1);
         let place = implied_place(&book[start..end], session, variables);
         marks[place] = 1;
         c += 1;
@@ -200,8 +204,8 @@ pub(crate) fn fixpoint(book: &[u32], session: &[u32], below: bool) -> bool
     let clauses = book::clauses(book);
     let mut c = 0;
     while c < clauses {
-        let start = book::clause_start(book, c);
-        let end = book::clause_start(book, c + 1);
+        let start = clause_start(book, c);
+        let end = clause_start(book, c + 1);
         let watches = 4 + 5 * variables + 2 * c;
         let first = wide(session[watches]);
         let second = wide(session[watches + 1]);
@@ -236,8 +240,8 @@ pub(crate) fn conflict_false(book: &[u32], session: &[u32], c: usize) -> bool
     ensures { λ r. ⌜ Says r (AllFalse (formulaOf (now (book .entry))) (now (session .entry)) c) ⌝ }
 {
     let variables = book::variables(book);
-    let start = book::clause_start(book, c);
-    let end = book::clause_start(book, c + 1);
+    let start = clause_start(book, c);
+    let end = clause_start(book, c + 1);
     all_false(&book[start..end], session, variables)
 }
 

@@ -8,6 +8,7 @@ ghost use Rattle.run.specs.Run.{clauseOf, cellOf, maxCount};
 ghost use Rattle.session.specs.Layout.{required};
 ghost use Rattle.session.specs.Inner.Engine.{scannedIn, Visiting, Visited};
 ghost use Rattle.session.specs.Inner.Visits.{otherNode, countNums, moveNums, Scannable, Seeking};
+use crate::clauses::clause_start;
 use crate::lists::push_front;
 use crate::lists::unlink;
 use crate::scan::Scan;
@@ -80,8 +81,8 @@ fn scan_at(book: &[u32], session: &[u32], c: usize) -> Scan
 {
     let variables = book::variables(book);
     let clauses = book::clauses(book);
-    let start = book::clause_start(book, c);
-    let end = book::clause_start(book, c + 1);
+    let start = clause_start(book, c);
+    let end = clause_start(book, c + 1);
     let watches = 4 + 5 * variables;
     let first = wide(session[watches + 2 * c]);
     let second = wide(session[watches + 2 * c + 1]);
@@ -114,7 +115,7 @@ fn seek(
     let count = 4 + 5 * variables + 5 * clauses + c;
     match scan_at(book, session, c) {
         Scan::Found(position, made) => {
-            let to = book[book::clause_start(book, c) + position];
+            let to = book[clause_start(book, c) + position];
             move_watch(session, variables, clauses, slot, node, position as u32, to);
             add_checks(session, count, made);
             Visit::Moved
@@ -144,7 +145,7 @@ pub(crate) fn visit_clause(
     ensures { λ r. ⌜ ((at : Visiting (now (book .entry)) (now (session .entry)) literal slot node) → Visited (now (book .entry)) (now (session .entry)) (now (session .exit)) at r) ⌝ }
 {
     let variables = book::variables(book);
-    let start = book::clause_start(book, (wide(node) - 1) / 2);
+    let start = clause_start(book, (wide(node) - 1) / 2);
     let watch = wide(session[4 + 5 * variables + (wide(other_node(node)) - 1)]);
     let other = book[start + watch];
     match value_of(&session[4 + 2 * variables..4 + 3 * variables], other) {

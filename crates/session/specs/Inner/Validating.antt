@@ -46,10 +46,10 @@ pub record Implies (trail : List Entry) (clause : List ℕ) (h : ℕ) : Type 0 w
   pub there : place trail literal ≡ h
   pub others : (m : ℕ) → member m clause ≡ true → Before trail h m
 
--- the place of a true literal of the clause, 0 where there is none
+-- the place of a true literal of the clause, or 0, and then the clause implies nothing
 pub record TruePlace (trail : List Entry) (clause : List ℕ) (r : ℕ) : Type 0 where
   pub yes : 0 < r → (m : ℕ) × (member m clause ≡ true) × (place trail m ≡ r)
-  pub no : r ≡ 0 → (m : ℕ) → member m clause ≡ true → place trail m ≡ 0
+  pub none : r ≡ 0 → (h : ℕ) → Implies trail clause h → ⊥
 
 -- the place of the literal that the clause implies, 0 where there is none
 pub record ImpliedPlace (trail : List Entry) (clause : List ℕ) (r : ℕ) : Type 0 where

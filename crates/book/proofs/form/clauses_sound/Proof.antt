@@ -1,14 +1,14 @@
 -- `book::form::clauses_sound` meets its contract. The loop's invariant: what is left to look at decides, and no mark is above the
 -- last clause's tag. The measure is how many are left. Assumes nothing.
-use Prim.Native.Nat.{_-_, _≤_}
+use Prim.Native.Nat.{ℕ, _+_, _-_, _≤_}
 use mathlib.Core.Path.{_≡_, sym, _∙_, ap}
 use native.Mathlib.Omega.{arith}
 use borrow.Author.Tests.{not-true, not-false}
-use lib.ListN.{length}
+use lib.ListN.{length, getD}
 use Rattle.base.specs.Lists.{all}
 use Rattle.book.specs.Formula.{soundClause}
 use Rattle.book.specs.Inner.Marks.{Bounded}
-use Rattle.book.specs.Numbers.{clausesFrom, clauseAt}
+use Rattle.book.specs.Numbers.{clauseStart, clausesFrom, clauseAt}
 use Rattle.book.proofs.FormLaws.{clauses-more, clauses-stop, clauses-end}
 use Rattle.book.proofs.MarkLaws.{bounded-fresh, marked-none}
 use Rattle.book.proofs.PartLaws.{clause-between, clause-inside}
@@ -32,32 +32,66 @@ loop-holds c =
       ap (λ n. all (soundClause (c .before .args .variables)) (clausesFrom (c .before .args .book .now) 0 n)) all-left,
     )
 
-clause-start-requires : tie.Need-clause-start-requires Inv-loop μ-loop
-clause-start-requires c κs = tt
+add-start : tie.Need-add-start Inv-loop μ-loop
+add-start c = omega arith
 
-add-clause-start : tie.Need-add-clause-start Inv-loop μ-loop
-add-clause-start c = omega arith
+add-wide : tie.Need-add-wide Inv-loop μ-loop
+add-wide c = omega arith
 
-clause-start-requires-2 : tie.Need-clause-start-requires-2 Inv-loop μ-loop
-clause-start-requires-2 c κs = tt
+mul-wide : tie.Need-mul-wide Inv-loop μ-loop
+mul-wide c = omega arith
+
+shared-slice-read-wide : tie.Need-shared-slice-read-wide Inv-loop μ-loop
+shared-slice-read-wide c = omega arith
+
+wide-requires : tie.Need-wide-requires Inv-loop μ-loop
+wide-requires c κs = tt
+
+add-start-2 : tie.Need-add-start-2 Inv-loop μ-loop
+add-start-2 c = omega arith
+
+add-end : tie.Need-add-end Inv-loop μ-loop
+add-end c = omega arith
+
+add-wide-2 : tie.Need-add-wide-2 Inv-loop μ-loop
+add-wide-2 c = omega arith
+
+mul-wide-2 : tie.Need-mul-wide-2 Inv-loop μ-loop
+mul-wide-2 c = omega arith
+
+shared-slice-read-wide-2 : tie.Need-shared-slice-read-wide-2 Inv-loop μ-loop
+shared-slice-read-wide-2 c = omega arith
+
+wide-requires-2 : tie.Need-wide-requires-2 Inv-loop μ-loop
+wide-requires-2 c κs = tt
+
+add-end-2 : tie.Need-add-end-2 Inv-loop μ-loop
+add-end-2 c = omega arith
 
 add-tag : tie.Need-add-tag Inv-loop μ-loop
 add-tag c = omega arith
 
+-- the places at which the clause begins and ends, as they were read
+begins : (c : tie.After-wide2 Inv-loop μ-loop)
+    → c .before .before .before .before .before .before .before .args .clauses + 4 + c .before .before .wide .result
+    ≡ clauseStart (c .before .before .before .before .before .before .before .args .book .now) (c .before .before .before .before .before .loop .c)
+begins c = omega (arith, c .before .before .wide .ensures .0, c .before .before .before .before .before .before .before .pre .1)
+
+ends : (c : tie.After-wide2 Inv-loop μ-loop)
+    → c .before .before .before .before .before .before .before .args .clauses + 4 + c .wide2 .result
+    ≡ clauseStart (c .before .before .before .before .before .before .before .args .book .now) (c .before .before .before .before .before .loop .c + 1)
+ends c =
+    let same : 4 + c .before .before .before .before .before .loop .c ≡ 3 + (c .before .before .before .before .before .loop .c + 1) = omega arith in
+    let read = c .wide2 .ensures .0 ∙ ap (λ (i : ℕ). getD (c .before .before .before .before .before .before .before .args .book .now) i 0) same in
+    omega (arith, read, c .before .before .before .before .before .before .before .pre .1)
+
 -- the clause lies within the book
-inside : (c : tie.After-clause-start2 Inv-loop μ-loop)
-    → (c .before .clause-start .result ≤ c .clause-start2 .result)
-    × (c .clause-start2 .result ≤ length (c .before .before .before .before .before .args .book .now))
+inside : (c : tie.After-wide2 Inv-loop μ-loop)
+    → (c .before .before .wide .result ≤ c .wide2 .result)
+    × (c .before .before .before .before .before .before .before .args .clauses + 4 + c .wide2 .result ≤ length (c .before .before .before .before .before .before .before .args .book .now))
 inside c =
-    clause-inside
-    (c .before .before .before .before .before .args .book .now)
-    (c .before .before .before .before .before .pre .0)
-    (c .before .before .before .loop .c)
-    (c .before .clause-start .result)
-    (c .clause-start2 .result)
-    (omega arith)
-    (c .before .clause-start .ensures)
-    (c .clause-start2 .ensures)
+    let bounds = clause-inside _ (c .before .before .before .before .before .before .before .pre .0) (c .before .before .before .before .before .loop .c) _ _ (omega arith) (begins c) (ends c) in
+    (omega (arith, bounds), bounds .1)
 
 mul-clause-sound : tie.Need-mul-clause-sound Inv-loop μ-loop
 mul-clause-sound c = omega (arith, inside c)
@@ -73,37 +107,29 @@ part-clause-sound-end c = omega (arith, inside c)
 
 clause-sound-requires : tie.Need-clause-sound-requires Inv-loop μ-loop
 clause-sound-requires c κs =
-    (omega arith, marked-none _ (c .before .before .before .before .before .loop .tag) _ (omega arith) (c .before .before .before .before .before .loop .inv .2))
+    (omega arith, marked-none _ (c .before .before .before .before .before .before .before .loop .tag) _ (omega arith) (c .before .before .before .before .before .before .before .loop .inv .2))
 
 -- the answer is the clause's
 clause-answer : (c : tie.After-clause-sound Inv-loop μ-loop)
     → c .clause-sound .result
-    ≡ soundClause
-    (c .before .before .before .before .before .before .before .before .args .variables)
-    (clauseAt (c .before .before .before .before .before .before .before .before .args .book .now) (c .before .before .before .before .before .before .loop .c))
+    ≡ soundClause (c .before .before .before .before .before .before .before .before .before .before .args .variables) (clauseAt (c .before .before .before .before .before .before .before .before .before .before .args .book .now) (c .before .before .before .before .before .before .before .before .loop .c))
 clause-answer c =
     c .clause-sound .ensures .0
     ∙ ap
-    (soundClause (c .before .before .before .before .before .before .before .before .args .variables))
-    (clause-between
-    (c .before .before .before .before .before .before .before .before .args .book .now)
-    (c .before .before .before .before .before .before .loop .c)
-    (c .before .before .before .before .clause-start .result)
-    (c .before .before .before .clause-start2 .result)
-    (c .before .before .before .before .clause-start .ensures)
-    (c .before .before .before .clause-start2 .ensures))
+    (soundClause (c .before .before .before .before .before .before .before .before .before .before .args .variables))
+    (clause-between _ (c .before .before .before .before .before .before .before .before .loop .c) _ _ (begins (c .before .before .before)) (ends (c .before .before .before)))
 
 returns : tie.Need-returns Inv-loop μ-loop
 returns c =
     sym
     (clauses-stop
-    (c .before .before .before .before .before .before .before .before .before .args .book .now)
-    (c .before .before .before .before .before .before .before .loop .c)
-    (c .before .before .before .before .before .before .before .before .before .args .clauses)
-    (c .before .before .before .before .before .before .before .before .before .args .variables)
+    (c .before .before .before .before .before .before .before .before .before .before .before .args .book .now)
+    (c .before .before .before .before .before .before .before .before .before .loop .c)
+    (c .before .before .before .before .before .before .before .before .before .before .before .args .clauses)
+    (c .before .before .before .before .before .before .before .before .before .before .before .args .variables)
     (omega arith)
     (sym (clause-answer (c .before)) ∙ not-true _ (c .if1 .taken)))
-    ∙ c .before .before .before .before .before .before .before .loop .inv .3
+    ∙ c .before .before .before .before .before .before .before .before .before .loop .inv .3
 
 add-c : tie.Need-add-c Inv-loop μ-loop
 add-c c = omega arith
@@ -118,13 +144,13 @@ loop-again c = (
   c .before .clause-sound .ensures .1,
   sym
       (clauses-more
-      (c .before .before .before .before .before .before .before .before .before .args .book .now)
-      (c .before .before .before .before .before .before .before .loop .c)
-      (c .before .before .before .before .before .before .before .before .before .args .clauses)
-      (c .before .before .before .before .before .before .before .before .before .args .variables)
+      (c .before .before .before .before .before .before .before .before .before .before .before .args .book .now)
+      (c .before .before .before .before .before .before .before .before .before .loop .c)
+      (c .before .before .before .before .before .before .before .before .before .before .before .args .clauses)
+      (c .before .before .before .before .before .before .before .before .before .before .before .args .variables)
       (omega arith)
       (sym (clause-answer (c .before)) ∙ not-false _ (c .if1 .left)))
-      ∙ c .before .before .before .before .before .before .before .loop .inv .3,
+      ∙ c .before .before .before .before .before .before .before .before .before .loop .inv .3,
 )
 
 returns-2 : tie.Need-returns-2 Inv-loop μ-loop
@@ -145,9 +171,18 @@ clauses-sound-spec =
     Inv-loop
     μ-loop
     loop-holds
-    clause-start-requires
-    add-clause-start
-    clause-start-requires-2
+    add-start
+    add-wide
+    mul-wide
+    shared-slice-read-wide
+    wide-requires
+    add-start-2
+    add-end
+    add-wide-2
+    mul-wide-2
+    shared-slice-read-wide-2
+    wide-requires-2
+    add-end-2
     add-tag
     mul-clause-sound
     sub-clause-sound

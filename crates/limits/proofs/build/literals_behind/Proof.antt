@@ -7,10 +7,10 @@ use Rattle.limits.proofs.build.literals_behind.Statement.{statement}
 use Rattle.limits.proofs.build.literals_behind.Tie as tie
 
 abbrev Inv-loop : tie.InvT-loop
-Inv-loop book₀ clauses n literals literal₀ i₀ book literal i = (i ≤ literals) × (length book ≡ length book₀)
+Inv-loop book₀ clauses literals first step last literal₀ i₀ book literal i = (i ≤ literals) × (length book ≡ length book₀)
 
 abbrev μ-loop : tie.MeasureT-loop
-μ-loop book₀ clauses n literals literal₀ i₀ book literal i = literals - i
+μ-loop book₀ clauses literals first step last literal₀ i₀ book literal i = literals - i
 
 loop-holds : tie.Need-loop-holds Inv-loop μ-loop
 loop-holds c = search needs
@@ -32,6 +32,9 @@ store-requires c κs = search needs
 
 wrapping-add-u32-requires : tie.Need-wrapping-add-u32-requires Inv-loop μ-loop
 wrapping-add-u32-requires c κs = search needs
+
+wide-requires-3 : tie.Need-wide-requires-3 Inv-loop μ-loop
+wide-requires-3 c κs = search needs
 
 add-i : tie.Need-add-i Inv-loop μ-loop
 add-i c = search needs
@@ -61,6 +64,7 @@ literals-behind-spec =
     add-store-2
     store-requires
     wrapping-add-u32-requires
+    wide-requires-3
     add-i
     loop-less
     loop-again

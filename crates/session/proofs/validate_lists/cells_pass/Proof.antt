@@ -41,10 +41,10 @@ add-clause-start : tie.Need-add-clause-start Inv-loop μ-loop
 add-clause-start c = omega arith
 
 clause-start-requires : tie.Need-clause-start-requires Inv-loop μ-loop
-clause-start-requires c κs = tt
+clause-start-requires c κs = (c .before .before .before .before .before .before .pre .0, omega arith)
 
 clause-start-requires-2 : tie.Need-clause-start-requires-2 Inv-loop μ-loop
-clause-start-requires-2 c κs = tt
+clause-start-requires-2 c κs = (c .before .before .before .before .before .before .before .pre .0, omega arith)
 
 sub-n : tie.Need-sub-n Inv-loop μ-loop
 sub-n c = omega (arith, clause-inside _ (well-formed-parted _ (c .before .before .before .before .before .before .before .before .pre .0)) (c .before .before .before .loop .c) (c .clause-start2 .result) (c .before .clause-start .result) (omega arith) (c .clause-start2 .ensures) (c .before .clause-start .ensures))

@@ -15,13 +15,13 @@ wide-requires : tie.Need-wide-requires
 wide-requires c κs = search needs
 
 clause-start-requires : tie.Need-clause-start-requires
-clause-start-requires c κs = search needs
+clause-start-requires c κs = (c .before .before .before .pre .0 .well, omega arith)
 
 add-clause-start : tie.Need-add-clause-start
 add-clause-start c = search needs
 
 clause-start-requires-2 : tie.Need-clause-start-requires-2
-clause-start-requires-2 c κs = search needs
+clause-start-requires-2 c κs = (c .before .before .before .before .pre .0 .well, omega arith)
 
 sub-if1 : tie.Need-sub-if1
 sub-if1 c = omega (arith, clause-inside _ (well-formed-parted _ (c .before .before .before .before .before .pre .0 .well)) (c .before .before .wide .result) (c .before .clause-start .result) (c .clause-start2 .result) (omega arith) (c .before .clause-start .ensures) (c .clause-start2 .ensures))

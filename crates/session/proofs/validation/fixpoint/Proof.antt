@@ -29,13 +29,13 @@ loop-holds : tie.Need-loop-holds Inv-loop μ-loop
 loop-holds c = (omega arith, λ k h. absurd (omega arith))
 
 clause-start-requires : tie.Need-clause-start-requires Inv-loop μ-loop
-clause-start-requires c κs = tt
+clause-start-requires c κs = (c .before .before .before .before .before .before .pre .0 .well, omega arith)
 
 add-clause-start : tie.Need-add-clause-start Inv-loop μ-loop
 add-clause-start c = omega arith
 
 clause-start-requires-2 : tie.Need-clause-start-requires-2 Inv-loop μ-loop
-clause-start-requires-2 c κs = tt
+clause-start-requires-2 c κs = (c .before .before .before .before .before .before .before .pre .0 .well, omega arith)
 
 -- the clause is one of the book's and lies within it
 exists : (c : tie.After-clause-start2 Inv-loop μ-loop) → c .before .before .before .loop .c < clausesOf

@@ -3,11 +3,12 @@
 use Prim.Native.Nat.{ℕ, _-_, _≤_, _<_}
 use native.Mathlib.Omega.{arith}
 use borrow.Author.Count.{below-more}
-use mathlib.Core.Path.{_≡_, sym, _∙_}
+use mathlib.Core.Path.{_≡_, ap, sym, _∙_}
 use lib.ListN.{length, getD}
+use Rattle.book.proofs.SoundLaws.{literal-parts}
 use Rattle.run.specs.Trail.{place}
 use Rattle.session.specs.Inner.Validating.{trailOf}
-use Rattle.session.proofs.JustifyLaws.{sound-within, true-found, true-none}
+use Rattle.session.proofs.JustifyLaws.{opposite-within, sound-within, true-found, true-open, true-none}
 use Rattle.session.proofs.validation.true_place.Statement.{statement}
 use Rattle.session.proofs.validation.true_place.Tie as tie
 
@@ -38,6 +39,29 @@ place-of-requires c κs = (
 returns : tie.Need-returns Inv-loop μ-loop
 returns c = true-found _ _ (c .before .before .before .before .loop .i) _ (omega arith) (c .before .place-of .ensures) (c .if1 .taken)
 
+mul-opposite : tie.Need-mul-opposite Inv-loop μ-loop
+mul-opposite c = omega arith
+
+shared-slice-read-opposite : tie.Need-shared-slice-read-opposite Inv-loop μ-loop
+shared-slice-read-opposite c = omega arith
+
+opposite-requires : tie.Need-opposite-requires Inv-loop μ-loop
+opposite-requires c κs =
+    omega (arith, literal-parts _ _ (sound-within _ _ (c .before .before .before .before .before .before .before .before .pre .1) (c .before .before .before .before .before .loop .i) (omega arith)), c .before .before .before .before .before .before .before .before .pre .0 .few)
+
+place-of-requires-2 : tie.Need-place-of-requires-2 Inv-loop μ-loop
+place-of-requires-2 c κs = (
+  c .before .before .before .before .before .before .before .before .before .pre .0,
+  rw (c .opposite .ensures) (opposite-within _ _ (sound-within _ _ (c .before .before .before .before .before .before .before .before .before .pre .1) (c .before .before .before .before .before .before .loop .i) (omega arith))),
+)
+
+returns-2 : tie.Need-returns-2 Inv-loop μ-loop
+returns-2 c =
+    true-open _ _
+    (c .before .before .before .before .before .before .before .before .loop .i) _ _ (omega arith)
+    (c .before .before .before .before .before .place-of .ensures) (omega arith)
+    (c .before .place-of2 .ensures ∙ ap (place _) (c .before .before .opposite .ensures)) (c .if2 .taken)
+
 add-i : tie.Need-add-i Inv-loop μ-loop
 add-i c = omega arith
 
@@ -47,12 +71,12 @@ loop-less c = omega arith
 loop-again : tie.Need-loop-again Inv-loop μ-loop
 loop-again c = (
   omega arith,
-  below-more _ _ (c .before .before .before .before .loop .inv .1)
-      (let off : c .before .place-of .result ≡ 0 = omega arith in sym (c .before .place-of .ensures) ∙ off),
+  below-more _ _ (c .before .before .before .before .before .before .before .before .loop .inv .1)
+      (let off : c .before .before .before .before .before .place-of .result ≡ 0 = omega arith in sym (c .before .before .before .before .before .place-of .ensures) ∙ off),
 )
 
-returns-2 : tie.Need-returns-2 Inv-loop μ-loop
-returns-2 c = true-none _ _ (λ i h. c .before .loop .inv .1 i (omega arith))
+returns-3 : tie.Need-returns-3 Inv-loop μ-loop
+returns-3 c = true-none _ _ (λ i h. c .before .loop .inv .1 i (omega arith))
 
 pub true-place-spec : {M : Type 1} → statement M
 true-place-spec =
@@ -65,7 +89,12 @@ true-place-spec =
     shared-slice-read-place-of
     place-of-requires
     returns
+    mul-opposite
+    shared-slice-read-opposite
+    opposite-requires
+    place-of-requires-2
+    returns-2
     add-i
     loop-less
     loop-again
-    returns-2)
+    returns-3)

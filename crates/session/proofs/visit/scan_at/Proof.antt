@@ -16,13 +16,13 @@ clauses-requires : tie.Need-clauses-requires
 clauses-requires c κs = search needs
 
 clause-start-requires : tie.Need-clause-start-requires
-clause-start-requires c κs = search needs
+clause-start-requires c κs = (c .before .before .before .before .pre .well, let s = scan-spot (c .before .before .before .before .pre) in omega arith)
 
 add-clause-start : tie.Need-add-clause-start
 add-clause-start c = search needs
 
 clause-start-requires-2 : tie.Need-clause-start-requires-2
-clause-start-requires-2 c κs = search needs
+clause-start-requires-2 c κs = (c .before .before .before .before .before .pre .well, let s = scan-spot (c .before .before .before .before .before .pre) in omega arith)
 
 mul-watches : tie.Need-mul-watches
 mul-watches c = search needs

@@ -70,7 +70,7 @@ enum-known-position : tie.Need-enum-known-position
 enum-known-position c = search needs
 
 clause-start-requires : tie.Need-clause-start-requires
-clause-start-requires c κs = search needs
+clause-start-requires c κs = (c .before .before .before .before .before .before .before .before .before .before .pre .at .well, let s = spot (c .before .before .before .before .before .before .before .before .before .before .pre .at) in omega arith)
 
 add-to : tie.Need-add-to
 add-to c = let f = found c in omega arith

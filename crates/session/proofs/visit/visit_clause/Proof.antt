@@ -37,7 +37,7 @@ sub-clause-start : tie.Need-sub-clause-start
 sub-clause-start c = let s = spot (c .before .before .before .before .pre) in omega arith
 
 clause-start-requires : tie.Need-clause-start-requires
-clause-start-requires c κs = search needs
+clause-start-requires c κs = (c .before .before .before .before .pre .well, let s = spot (c .before .before .before .before .pre) in omega arith)
 
 mul-wide : tie.Need-mul-wide
 mul-wide c = search needs

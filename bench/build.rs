@@ -1,0 +1,27 @@
+//! Links the static library of the proved engine, and CaDiCaL behind a shim compiled by g++.
+use std::env;
+use std::path::Path;
+use std::process::Command;
+
+fn run(command: &mut Command) {
+    let status = command.status().expect("the command starts");
+    assert!(status.success(), "{command:?} failed");
+}
+
+fn main() {
+    let out = env::var("OUT_DIR").expect("cargo sets OUT_DIR");
+    let root = env::var("CARGO_MANIFEST_DIR").expect("cargo sets CARGO_MANIFEST_DIR");
+    let staticlib = Path::new(&root).join("../target/staticlib");
+    let object = format!("{out}/cadical.o");
+    let archive = format!("{out}/libshim.a");
+    run(Command::new("g++").args(["-O2", "-c", "shim/cadical.cpp", "-o", &object]));
+    run(Command::new("ar").args(["crs", &archive, &object]));
+    println!("cargo:rustc-link-search=native={out}");
+    println!("cargo:rustc-link-search=native={}", staticlib.display());
+    println!("cargo:rustc-link-lib=static=shim");
+    println!("cargo:rustc-link-lib=static=capi");
+    println!("cargo:rustc-link-lib=cadical");
+    println!("cargo:rustc-link-lib=stdc++");
+    println!("cargo:rerun-if-changed=shim/cadical.cpp");
+    println!("cargo:rerun-if-changed={}", staticlib.join("libcapi.a").display());
+}

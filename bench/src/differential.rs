@@ -1,0 +1,162 @@
+//! Both engines on the same inputs, valid and damaged: equal answers and equal numbers after every call.
+use crate::answer::Answer;
+use crate::books;
+use crate::cadical;
+use crate::damage;
+use crate::engine::Engine;
+use crate::places::places;
+use crate::plan::{PLAIN, PROVED};
+use crate::random::Random;
+use crate::script::{session_length, Workload};
+use std::rc::Rc;
+
+/// Lent numbers behind the required length, which no call may change.
+const MARGIN: usize = 3;
+
+/// How many calls were compared, by what they answered, and how many states CaDiCaL confirmed.
+#[derive(Default)]
+pub struct Compared {
+    pub accepted: usize,
+    pub conflicts: usize,
+    pub refused: [usize; 18],
+    pub confirmed: usize,
+}
+
+impl Compared {
+    /// Makes a call on both engines, each over its own copy of the numbers; panics where they differ.
+    fn both(&mut self, numbers: &mut Vec<u32>, call: impl Fn(&dyn Engine, &mut [u32]) -> Answer) -> Answer {
+        let mut others = numbers.clone();
+        let answer = call(PROVED, numbers);
+        let other = call(PLAIN, &mut others);
+        assert_eq!(answer, other, "the answers differ");
+        assert!(*numbers == others, "the numbers differ after {answer:?}");
+        match answer {
+            Answer::Accepted(_) => self.accepted += 1,
+            Answer::Conflict(_) => self.conflicts += 1,
+            Answer::Refused(number) => self.refused[number as usize] += 1,
+        }
+        answer
+    }
+
+    pub fn refusals(&self) -> usize {
+        self.refused.iter().sum()
+    }
+
+    /// The calls that change nothing.
+    fn reading_calls(&mut self, random: &mut Random, book: &[u32], session: &[u32]) {
+        let variable = random.below(book[0] as usize % 501 + 2) as u32;
+        let before = random.below(8) as u32;
+        let mut numbers = session.to_vec();
+        self.both(&mut numbers, |engine, session| engine.lookup(book, session, variable));
+        let mut copied = vec![u32::MAX; 12];
+        self.both(&mut copied, |engine, out| engine.trail_from(book, session, before, out));
+        let mut halves = vec![7, 7];
+        self.both(&mut halves, |engine, halves| {
+            let mut sum = 7;
+            let answer = engine.total(book, session, &mut sum);
+            halves.copy_from_slice(&[sum as u32, (sum >> 32) as u32]);
+            answer
+        });
+    }
+
+    /// A decision of a random literal and a backtrack of a random k, refused ones among them, on copies.
+    fn random_calls(&mut self, random: &mut Random, book: &[u32], session: &[u32]) {
+        let literal = random.below(2 * (book[0] as usize % 501) + 4) as u32;
+        let k = random.below(4) as u32;
+        self.both(&mut session.to_vec(), |engine, session| {
+            engine.decide(book, session, literal)
+        });
+        self.both(&mut session.to_vec(), |engine, session| {
+            engine.backtrack(book, session, k)
+        });
+    }
+
+    /// Every call on a damaged copy of the session, and on a damaged copy of the book.
+    fn damaged_calls(&mut self, random: &mut Random, book: &[u32], session: &[u32]) {
+        let damaged = damage::numbers(random, session);
+        self.random_calls(random, book, &damaged);
+        self.reading_calls(random, book, &damaged);
+        let rewatched = damage::rewatched(random, book, session);
+        self.random_calls(random, book, &rewatched);
+        let broken = damage::numbers(random, book);
+        if broken.is_empty() {
+            return;
+        }
+        self.both(&mut Vec::new(), |engine, _| engine.required_length(&broken));
+        self.both(&mut session.to_vec(), |engine, session| engine.open(&broken, session));
+        self.random_calls(random, &broken, session);
+    }
+
+    /// The values that CaDiCaL propagates are those of the session.
+    fn confirm(&mut self, book: &[u32], session: &[u32]) {
+        let places = places(book);
+        let levels = &session[places.levels][..session[0] as usize];
+        let decided = |&i: &usize| levels[i] != if i == 0 { 0 } else { levels[i - 1] };
+        let trail = &session[places.trail];
+        let decisions: Vec<u32> = (0..levels.len()).filter(decided).map(|i| trail[i]).collect();
+        let values = cadical::values(&cadical::clauses_of(book), &decisions, trail.len());
+        let signs = session[places.values].iter().map(|&value| match value {
+            0 => 0,
+            value => 1 - 2 * (value % 2) as i32,
+        });
+        let expected = (session[2] == 0).then(|| signs.collect::<Vec<i32>>());
+        assert!(values == expected, "CaDiCaL propagates otherwise");
+        self.confirmed += 1;
+    }
+
+    /// Further calls on a state, on damaged copies too.
+    fn state(&mut self, random: &mut Random, book: &[u32], session: &[u32]) {
+        self.reading_calls(random, book, session);
+        self.random_calls(random, book, session);
+        self.damaged_calls(random, book, session);
+    }
+
+    /// A whole workload, with further calls behind the opening and behind one call in `every`.
+    fn workload(&mut self, random: &mut Random, workload: &Workload, every: usize) {
+        let book = &workload.book;
+        let mut session = vec![9; session_length(book) + MARGIN];
+        self.both(&mut session, |engine, session| engine.open(book, session));
+        self.state(random, book, &session);
+        for (i, &call) in workload.script.iter().enumerate() {
+            self.both(&mut session, |engine, session| call.make(engine, book, session));
+            if i % every == 0 {
+                self.state(random, book, &session);
+                self.confirm(book, &session);
+            }
+        }
+    }
+
+    /// Damaged copies of a text.
+    fn texts(&mut self, random: &mut Random, text: &[u8], copies: usize) {
+        for _ in 0..copies {
+            let text = damage::text(random, text);
+            let mut book = vec![5; if random.once_in(9) { random.below(60) } else { 7507 }];
+            self.both(&mut book, |engine, book| engine.read(&text, book));
+        }
+    }
+}
+
+/// Compares both engines over the bench's workloads and texts and over small books; panics at a difference.
+pub fn compare(workloads: &[Rc<Workload>], texts: &[Rc<Vec<u8>>]) -> Compared {
+    let mut compared = Compared::default();
+    let mut random = Random::new(99);
+    for workload in workloads {
+        compared.workload(&mut random, workload, 5);
+    }
+    let edges = damage::edges();
+    for text in texts
+        .iter()
+        .map(|text| &text[..])
+        .chain(edges.iter().map(|text| &text[..]))
+    {
+        compared.both(&mut vec![5; 7507], |engine, book| engine.read(text, book));
+        compared.texts(&mut random, text, 30);
+    }
+    for _ in 0..1500 {
+        let book = books::small(&mut random);
+        compared.texts(&mut random, &books::text_of(&book), 6);
+        let workload = Workload::new("small", &mut random, book, 12);
+        compared.workload(&mut random, &workload, 2);
+    }
+    compared
+}

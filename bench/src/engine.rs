@@ -1,0 +1,13 @@
+//! The calls that both engines have.
+use crate::answer::Answer;
+
+pub trait Engine {
+    fn read(&self, text: &[u8], book: &mut [u32]) -> Answer;
+    fn required_length(&self, book: &[u32]) -> Answer;
+    fn open(&self, book: &[u32], session: &mut [u32]) -> Answer;
+    fn decide(&self, book: &[u32], session: &mut [u32], literal: u32) -> Answer;
+    fn backtrack(&self, book: &[u32], session: &mut [u32], k: u32) -> Answer;
+    fn lookup(&self, book: &[u32], session: &[u32], variable: u32) -> Answer;
+    fn trail_from(&self, book: &[u32], session: &[u32], before: u32, out: &mut [u32]) -> Answer;
+    fn total(&self, book: &[u32], session: &[u32], sum: &mut u64) -> Answer;
+}

@@ -1,0 +1,64 @@
+//! Instructions: this program runs itself once under callgrind, which writes one dump for each task.
+use crate::plan::Plan;
+use crate::probe::{bench_dump, Collector, Probe};
+use std::fs;
+use std::path::Path;
+use std::process::{Command, Stdio};
+
+/// The argument that makes this program run the plan's tasks for callgrind.
+pub const ARGUMENT: &str = "collect";
+
+/// Runs each task once, with a dump behind it.
+pub fn collect(plan: &mut Plan) {
+    for group in plan.groups() {
+        for task in &group.tasks {
+            (task.work)(&mut Collector);
+            bench_dump();
+        }
+    }
+}
+
+/// The instructions that a dump of callgrind counts in all.
+fn total(dump: &Path) -> f64 {
+    let text = fs::read_to_string(dump).unwrap_or_else(|error| panic!("{}: {error}", dump.display()));
+    let line = text.lines().find_map(|line| line.strip_prefix("totals: "));
+    line.and_then(|number| number.trim().parse().ok()).unwrap_or(0.0)
+}
+
+/// A probe that counts calls.
+struct Counter(usize);
+
+impl Probe for Counter {
+    fn call(&mut self, f: &mut dyn FnMut()) {
+        self.0 += 1;
+        f();
+    }
+}
+
+/// Fills in the instructions per call of every task.
+pub fn count(plan: &mut Plan, folder: &Path) {
+    let out = folder.join("callgrind.out");
+    let status = Command::new("valgrind")
+        .args([
+            "--tool=callgrind",
+            "--toggle-collect=bench_collected",
+            "--dump-after=bench_dump",
+        ])
+        .arg(format!("--callgrind-out-file={}", out.display()))
+        .arg(std::env::current_exe().expect("the path of this program"))
+        .arg(ARGUMENT)
+        .stderr(Stdio::null())
+        .status()
+        .expect("valgrind starts");
+    assert!(status.success(), "callgrind failed");
+    let mut number = 0;
+    for group in plan.groups() {
+        for task in &mut group.tasks {
+            number += 1;
+            let mut counter = Counter(0);
+            (task.work)(&mut counter);
+            let dump = folder.join(format!("callgrind.out.{number}"));
+            task.instructions = total(&dump) / counter.0 as f64;
+        }
+    }
+}

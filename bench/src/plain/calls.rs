@@ -1,0 +1,101 @@
+//! The calls on a book and a lent session: each validates both, then reads or changes the session.
+use super::formula::Formula;
+use super::layout::{self, Parts};
+use super::propagation::Run;
+use super::validation;
+use crate::answer::Answer;
+
+type Outcome = Result<Answer, u32>;
+
+/// The formula and the parts of a session that passes, or the refusal number.
+fn validated<'b, 's>(book: &'b [u32], session: &'s [u32]) -> Result<(Formula<'b>, Parts<&'s [u32]>), u32> {
+    let formula = Formula::from_numbers(book).ok_or(11u32)?;
+    let parts = layout::shared(session, formula.variables, formula.clauses()).ok_or(12u32)?;
+    if !validation::passes(&formula, &parts) {
+        return Err(12);
+    }
+    Ok((formula, parts))
+}
+
+fn run<'a>(formula: &'a Formula, session: &'a mut [u32]) -> Run<'a> {
+    let session = layout::lent(session, formula.variables, formula.clauses());
+    Run { formula, session }
+}
+
+/// The answer of a call that propagated, from the header; the trail had `before` literals.
+fn propagated(session: &[u32], before: u32) -> Answer {
+    match session[2] {
+        0 => Answer::Accepted(session[0] - before),
+        name => Answer::Conflict(name),
+    }
+}
+
+pub fn required_length(book: &[u32]) -> Outcome {
+    let formula = Formula::from_numbers(book).ok_or(11u32)?;
+    let length = layout::required_length(formula.variables, formula.clauses());
+    Ok(Answer::Accepted(length as u32))
+}
+
+pub fn open(book: &[u32], session: &mut [u32]) -> Outcome {
+    let formula = Formula::from_numbers(book).ok_or(11u32)?;
+    if session.len() < layout::required_length(formula.variables, formula.clauses()) {
+        return Err(10);
+    }
+    run(&formula, session).open();
+    Ok(propagated(session, 0))
+}
+
+pub fn decide(book: &[u32], session: &mut [u32], literal: u32) -> Outcome {
+    let (formula, parts) = validated(book, session)?;
+    if literal < 2 || literal as usize > 2 * formula.variables + 1 {
+        return Err(13);
+    }
+    if parts.header[2] != 0 {
+        return Err(14);
+    }
+    if parts.values[literal as usize / 2 - 1] != 0 {
+        return Err(15);
+    }
+    let before = parts.header[0] + 1;
+    run(&formula, session).decide(literal);
+    Ok(propagated(session, before))
+}
+
+pub fn backtrack(book: &[u32], session: &mut [u32], k: u32) -> Outcome {
+    let (formula, parts) = validated(book, session)?;
+    if k == 0 || k > parts.header[1] {
+        return Err(16);
+    }
+    if parts.header[3] >= 1_000_000 {
+        return Err(17);
+    }
+    run(&formula, session).backtrack(k);
+    Ok(Answer::Accepted(0))
+}
+
+/// 0 open, 1 positive, 2 negative.
+pub fn lookup(book: &[u32], session: &[u32], variable: u32) -> Outcome {
+    let (formula, parts) = validated(book, session)?;
+    if variable == 0 || variable as usize > formula.variables {
+        return Err(13);
+    }
+    Ok(Answer::Accepted(match parts.values[variable as usize - 1] {
+        0 => 0,
+        value => 1 + value % 2,
+    }))
+}
+
+pub fn trail_from(book: &[u32], session: &[u32], before: u32, out: &mut [u32]) -> Outcome {
+    let (_, parts) = validated(book, session)?;
+    let trail = &parts.trail[..parts.header[0] as usize];
+    let behind = trail.get(before as usize..).unwrap_or(&[]);
+    let fitting = behind.len().min(out.len());
+    out[..fitting].copy_from_slice(&behind[..fitting]);
+    Ok(Answer::Accepted(behind.len() as u32))
+}
+
+pub fn total(book: &[u32], session: &[u32], sum: &mut u64) -> Outcome {
+    let (_, parts) = validated(book, session)?;
+    *sum = parts.checks.iter().map(|&count| u64::from(count)).sum();
+    Ok(Answer::Accepted(0))
+}

@@ -1,0 +1,51 @@
+//! The plain engine: the same calls in safe Rust, over the same numbers.
+mod calls;
+mod formula;
+mod layout;
+mod propagation;
+mod reader;
+mod validation;
+
+use crate::answer::Answer;
+use crate::engine::Engine;
+
+pub struct Plain;
+
+/// The answer of a call that fails by its refusal number.
+fn answer(result: Result<Answer, u32>) -> Answer {
+    result.unwrap_or_else(Answer::Refused)
+}
+
+impl Engine for Plain {
+    fn read(&self, text: &[u8], book: &mut [u32]) -> Answer {
+        answer(reader::read(text, book).map(|()| Answer::Accepted(0)))
+    }
+
+    fn required_length(&self, book: &[u32]) -> Answer {
+        answer(calls::required_length(book))
+    }
+
+    fn open(&self, book: &[u32], session: &mut [u32]) -> Answer {
+        answer(calls::open(book, session))
+    }
+
+    fn decide(&self, book: &[u32], session: &mut [u32], literal: u32) -> Answer {
+        answer(calls::decide(book, session, literal))
+    }
+
+    fn backtrack(&self, book: &[u32], session: &mut [u32], k: u32) -> Answer {
+        answer(calls::backtrack(book, session, k))
+    }
+
+    fn lookup(&self, book: &[u32], session: &[u32], variable: u32) -> Answer {
+        answer(calls::lookup(book, session, variable))
+    }
+
+    fn trail_from(&self, book: &[u32], session: &[u32], before: u32, out: &mut [u32]) -> Answer {
+        answer(calls::trail_from(book, session, before, out))
+    }
+
+    fn total(&self, book: &[u32], session: &[u32], sum: &mut u64) -> Answer {
+        answer(calls::total(book, session, sum))
+    }
+}

@@ -1,0 +1,263 @@
+//! The plan: every measured task, in groups whose tasks alternate; the timed run and callgrind's run share it.
+use crate::books::{self, Size, LIMITS, TENTH};
+use crate::cadical;
+use crate::engine::Engine;
+use crate::plain::Plain;
+use crate::probe::Probe;
+use crate::proved::Proved;
+use crate::random::Random;
+use crate::script::{Call, Workload};
+use crate::stages;
+use crate::text::grouped;
+use std::hint::black_box;
+use std::rc::Rc;
+
+pub const PROVED: &dyn Engine = &Proved;
+pub const PLAIN: &dyn Engine = &Plain;
+
+type Work = Box<dyn Fn(&mut dyn Probe)>;
+type Generate = fn(&mut Random, Size) -> Vec<u32>;
+
+/// One contestant's calls, and what was measured per call.
+pub struct Task {
+    pub work: Work,
+    pub nanoseconds: f64,
+    pub instructions: f64,
+}
+
+/// Tasks that alternate.
+pub struct Group {
+    pub name: String,
+    pub tasks: Vec<Task>,
+}
+
+/// A series of growing books; each group has its number on the axis.
+pub struct Series {
+    pub title: &'static str,
+    pub axis: &'static str,
+    /// Whether the axis is logarithmic.
+    pub logarithmic: bool,
+    pub points: Vec<(usize, Group)>,
+}
+
+pub struct Plan {
+    /// Each: decide proved, decide plain, lookup proved, lookup plain.
+    pub calls: Vec<Group>,
+    /// Each: decide proved, the same question to CaDiCaL, lookup proved.
+    pub cadical: Vec<Group>,
+    /// Each: read proved, read plain.
+    pub reading: Vec<Group>,
+    /// Each: the form of the book proved, plain, then every stage of validation proved, plain.
+    pub stages: Vec<Group>,
+    /// Each point: decide proved, decide plain, lookup proved.
+    pub growth: Vec<Series>,
+}
+
+fn task(work: impl Fn(&mut dyn Probe) + 'static) -> Task {
+    Task {
+        work: Box::new(work),
+        nanoseconds: 0.0,
+        instructions: 0.0,
+    }
+}
+
+/// The decisions of a script, measured.
+fn decide(engine: &'static dyn Engine, workload: &Rc<Workload>) -> Task {
+    let workload = workload.clone();
+    task(move |probe| {
+        workload.run(engine, |call, session| {
+            let mut made = || {
+                black_box(call.make(engine, &workload.book, session));
+            };
+            match call {
+                Call::Decide(_) => probe.call(&mut made),
+                Call::Backtrack(_) => made(),
+            }
+        })
+    })
+}
+
+/// A lookup before each decision of a script, measured: the validation of the same states.
+fn lookup(engine: &'static dyn Engine, workload: &Rc<Workload>) -> Task {
+    let workload = workload.clone();
+    task(move |probe| {
+        workload.run(engine, |call, session| {
+            if let Call::Decide(literal) = call {
+                probe.call(&mut || {
+                    black_box(engine.lookup(&workload.book, session, literal / 2));
+                });
+            }
+            call.make(engine, &workload.book, session);
+        })
+    })
+}
+
+/// The questions of a script's decisions to CaDiCaL, each to a fresh solver.
+fn ask(workload: &Rc<Workload>) -> Task {
+    let clauses = cadical::clauses_of(&workload.book);
+    let states = workload.decisions_in_force();
+    task(move |probe| {
+        for decisions in &states {
+            probe.call(&mut || {
+                black_box(cadical::ask(&clauses, decisions));
+            });
+        }
+    })
+}
+
+fn read(engine: &'static dyn Engine, text: &Rc<Vec<u8>>) -> Task {
+    let text = text.clone();
+    task(move |probe| {
+        let mut book = vec![0; 7504];
+        for _ in 0..10 {
+            probe.call(&mut || {
+                black_box(engine.read(&text, &mut book));
+            });
+        }
+    })
+}
+
+/// Lookups on sessions that fail at the end of a stage.
+fn refused(engine: &'static dyn Engine, workload: &Rc<Workload>, stage: usize) -> Task {
+    let workload = workload.clone();
+    let sessions = stages::sessions(&workload, stage, 20);
+    assert!(!sessions.is_empty(), "no state of {} suits the stages", workload.name);
+    task(move |probe| {
+        for session in &sessions {
+            probe.call(&mut || {
+                black_box(engine.lookup(&workload.book, session, 1));
+            });
+        }
+    })
+}
+
+fn form(engine: &'static dyn Engine, workload: &Rc<Workload>) -> Task {
+    let workload = workload.clone();
+    task(move |probe| {
+        for _ in 0..20 {
+            probe.call(&mut || {
+                black_box(engine.required_length(&workload.book));
+            });
+        }
+    })
+}
+
+/// The workloads of the comparison.
+pub fn workloads() -> Vec<Rc<Workload>> {
+    let mut random = Random::new(2024);
+    let mut made = Vec::new();
+    for (name, size) in [("limits", LIMITS), ("a tenth", TENTH)] {
+        let kinds: [(&str, Generate); 2] = [("random", books::mixed), ("chain", books::chain)];
+        for (kind, generate) in kinds {
+            let book = generate(&mut random, size);
+            made.push(Rc::new(Workload::new(
+                &format!("{name}, {kind}"),
+                &mut random,
+                book,
+                200,
+            )));
+        }
+    }
+    made
+}
+
+/// The texts of the reading comparison.
+pub fn texts(workloads: &[Rc<Workload>]) -> Vec<(String, Rc<Vec<u8>>)> {
+    let limits = books::text_of(&workloads[0].book);
+    let tenth = books::text_of(&workloads[2].book);
+    let padded = books::padded(&limits, 60_000);
+    let named = |name: &str, text: Vec<u8>| (format!("{name}, {} bytes", grouped(text.len() as f64)), Rc::new(text));
+    vec![
+        named("limits", limits),
+        named("limits, padded", padded),
+        named("a tenth", tenth),
+    ]
+}
+
+fn stage_group(workload: &Rc<Workload>) -> Group {
+    let mut tasks = vec![form(PROVED, workload), form(PLAIN, workload)];
+    for stage in 0..stages::STAGES.len() {
+        tasks.push(refused(PROVED, workload, stage));
+        tasks.push(refused(PLAIN, workload, stage));
+    }
+    Group {
+        name: workload.name.clone(),
+        tasks,
+    }
+}
+
+/// The points (number on the axis, C, clause length) of a series, at V 500.
+fn series(title: &'static str, axis: &'static str, points: &[(usize, usize, usize)]) -> Series {
+    let point = |&(x, clauses, length): &(usize, usize, usize)| {
+        let mut random = Random::new(7 + x as u64);
+        let book = books::uniform(&mut random, 500, clauses, length);
+        let workload = Rc::new(Workload::new(axis, &mut random, book, 40));
+        let tasks = vec![
+            decide(PROVED, &workload),
+            decide(PLAIN, &workload),
+            lookup(PROVED, &workload),
+        ];
+        let [c, l] = [clauses, clauses * length].map(|number| grouped(number as f64));
+        let name = format!("C {c}, L {l}, clauses of {length}");
+        (x, Group { name, tasks })
+    };
+    Series {
+        title,
+        axis,
+        logarithmic: false,
+        points: points.iter().map(point).collect(),
+    }
+}
+
+fn growth() -> Vec<Series> {
+    let clauses: Vec<_> = (1..=5).map(|i| (300 * i, 300 * i, 4)).collect();
+    let literals: Vec<_> = (2..=6).map(|n| (1000 * n, 1000, n)).collect();
+    let lengths: Vec<_> = [4, 8, 16, 32, 64, 128, 255].map(|n| (n, 6000 / n, n)).to_vec();
+    vec![
+        series("clauses of 4 literals", "C, the number of clauses", &clauses),
+        series("1,000 clauses", "L, the number of literals", &literals),
+        Series {
+            logarithmic: true,
+            ..series("about 6,000 literals", "clause length", &lengths)
+        },
+    ]
+}
+
+impl Plan {
+    pub fn new() -> Plan {
+        let workloads = workloads();
+        let calls = workloads.iter().map(|w| Group {
+            name: w.name.clone(),
+            tasks: vec![decide(PROVED, w), decide(PLAIN, w), lookup(PROVED, w), lookup(PLAIN, w)],
+        });
+        let cadical = workloads.iter().map(|w| {
+            let short = Rc::new(w.prefix(30));
+            Group {
+                name: w.name.clone(),
+                tasks: vec![decide(PROVED, &short), ask(&short), lookup(PROVED, &short)],
+            }
+        });
+        let reading = texts(&workloads).into_iter().map(|(name, text)| Group {
+            name,
+            tasks: vec![read(PROVED, &text), read(PLAIN, &text)],
+        });
+        Plan {
+            calls: calls.collect(),
+            cadical: cadical.collect(),
+            reading: reading.collect(),
+            stages: [&workloads[0], &workloads[2]].map(stage_group).into(),
+            growth: growth(),
+        }
+    }
+
+    /// All groups, in the order of the run.
+    pub fn groups(&mut self) -> impl Iterator<Item = &mut Group> {
+        let points = self.growth.iter_mut().flat_map(|series| series.points.iter_mut());
+        self.calls
+            .iter_mut()
+            .chain(self.cadical.iter_mut())
+            .chain(self.reading.iter_mut())
+            .chain(self.stages.iter_mut())
+            .chain(points.map(|(_, group)| group))
+    }
+}

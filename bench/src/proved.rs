@@ -1,0 +1,75 @@
+//! The proved engine: the calls of its static library.
+use crate::answer::Answer;
+use crate::engine::Engine;
+
+extern "C" {
+    fn tariff_read(text: *const u8, n: usize, book: *mut u32, m: usize) -> u64;
+    fn tariff_required_length(book: *const u32, n: usize) -> u64;
+    fn tariff_open(book: *const u32, n: usize, session: *mut u32, m: usize) -> u64;
+    fn tariff_decide(book: *const u32, n: usize, session: *mut u32, m: usize, literal: u32) -> u64;
+    fn tariff_backtrack(book: *const u32, n: usize, session: *mut u32, m: usize, k: u32) -> u64;
+    fn tariff_lookup(book: *const u32, n: usize, session: *const u32, m: usize, variable: u32) -> u64;
+    fn tariff_trail_from(
+        book: *const u32,
+        n: usize,
+        session: *const u32,
+        m: usize,
+        before: u32,
+        out: *mut u32,
+        k: usize,
+    ) -> u64;
+    fn tariff_total(book: *const u32, n: usize, session: *const u32, m: usize, sum: *mut u64) -> u64;
+}
+
+pub struct Proved;
+
+// Each call has no precondition: any slices of the declared types are in its domain.
+impl Engine for Proved {
+    fn read(&self, text: &[u8], book: &mut [u32]) -> Answer {
+        Answer::from_code(unsafe { tariff_read(text.as_ptr(), text.len(), book.as_mut_ptr(), book.len()) })
+    }
+
+    fn required_length(&self, book: &[u32]) -> Answer {
+        Answer::from_code(unsafe { tariff_required_length(book.as_ptr(), book.len()) })
+    }
+
+    fn open(&self, book: &[u32], session: &mut [u32]) -> Answer {
+        Answer::from_code(unsafe { tariff_open(book.as_ptr(), book.len(), session.as_mut_ptr(), session.len()) })
+    }
+
+    fn decide(&self, book: &[u32], session: &mut [u32], literal: u32) -> Answer {
+        Answer::from_code(unsafe {
+            tariff_decide(book.as_ptr(), book.len(), session.as_mut_ptr(), session.len(), literal)
+        })
+    }
+
+    fn backtrack(&self, book: &[u32], session: &mut [u32], k: u32) -> Answer {
+        Answer::from_code(unsafe {
+            tariff_backtrack(book.as_ptr(), book.len(), session.as_mut_ptr(), session.len(), k)
+        })
+    }
+
+    fn lookup(&self, book: &[u32], session: &[u32], variable: u32) -> Answer {
+        Answer::from_code(unsafe {
+            tariff_lookup(book.as_ptr(), book.len(), session.as_ptr(), session.len(), variable)
+        })
+    }
+
+    fn trail_from(&self, book: &[u32], session: &[u32], before: u32, out: &mut [u32]) -> Answer {
+        Answer::from_code(unsafe {
+            tariff_trail_from(
+                book.as_ptr(),
+                book.len(),
+                session.as_ptr(),
+                session.len(),
+                before,
+                out.as_mut_ptr(),
+                out.len(),
+            )
+        })
+    }
+
+    fn total(&self, book: &[u32], session: &[u32], sum: &mut u64) -> Answer {
+        Answer::from_code(unsafe { tariff_total(book.as_ptr(), book.len(), session.as_ptr(), session.len(), sum) })
+    }
+}

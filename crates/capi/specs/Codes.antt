@@ -1,0 +1,58 @@
+-- The answers as numbers for C: the kind times 2 ^ 32, and the number. Kind 0 is accepted, 1 a conflict, 2 a refusal.
+use Prim.Native.Nat.{ℕ, _+_, _*_}
+use mathlib.Core.List.{List}
+use Rattle.book.specs.declared.Reading.{Reading}
+use Rattle.book.specs.declared.Reading.the-variants as reading
+use Rattle.session.specs.declared.Answer.{Answer}
+use Rattle.session.specs.declared.Answer.the-variants as answer
+use Rattle.session.specs.declared.Back.{Back}
+use Rattle.session.specs.declared.Back.the-variants as back
+use Rattle.session.specs.declared.Assigned.{Assigned}
+use Rattle.session.specs.declared.Assigned.the-variants as assigned
+use Rattle.session.specs.declared.Sum.{Sum}
+use Rattle.session.specs.declared.Sum.the-variants as total
+use Rattle.session.specs.declared.Count.{Count}
+use Rattle.session.specs.declared.Count.the-variants as count
+
+abbrev pub conflictCode : ℕ → ℕ
+conflictCode clause = 4294967296 + clause
+
+abbrev pub refusalCode : ℕ → ℕ
+refusalCode number = 2 * 4294967296 + number
+
+-- reading: 0, or the refusal
+abbrev pub readingCode : Reading → ℕ
+readingCode (reading.Book variables clauses literals) = 0
+readingCode (reading.Refused number) = refusalCode number
+
+-- opening and decision: how many literals were implied, or the conflict clause's name, or the refusal
+abbrev pub answerCode : Answer → ℕ
+answerCode (answer.Implied n) = n
+answerCode (answer.Conflict clause) = conflictCode clause
+answerCode (answer.Refused number) = refusalCode number
+
+-- backtrack: 0, or the refusal
+abbrev pub backCode : Back → ℕ
+backCode back.Done = 0
+backCode (back.Refused number) = refusalCode number
+
+-- lookup: 0 open, 1 positive (the paper's wanted), 2 negative (barred), or the refusal
+abbrev pub assignedCode : Assigned → ℕ
+assignedCode assigned.Open = 0
+assignedCode assigned.Positive = 1
+assignedCode assigned.Negative = 2
+assignedCode (assigned.Refused number) = refusalCode number
+
+-- how many numbers there are, or the refusal
+abbrev pub countCode : Count → ℕ
+countCode (count.Of n) = n
+countCode (count.Refused number) = refusalCode number
+
+-- the sum of all checks goes to a place of its own, which a refusal leaves
+abbrev pub sumCode : Sum → ℕ
+sumCode (total.Checks checks) = 0
+sumCode (total.Refused number) = refusalCode number
+
+abbrev pub sumAfter : Sum → ℕ → ℕ
+sumAfter (total.Checks checks) before = checks
+sumAfter (total.Refused number) before = before

@@ -1,0 +1,2 @@
+-- The definitions of `capi`: how an answer stands in one number.
+pub mod Codes

@@ -1,0 +1,147 @@
+// The calls of book and session for C: slices as a pointer and a length, answers as one number.
+ghost use mathlib.Core.Path.{_≡_};
+ghost use lib.ListN.{length};
+ghost use Rattle.book.specs.Reading.{readText};
+ghost use Rattle.book.specs.Answer.{answerTo, numbersAfter};
+ghost use Rattle.run.specs.Run.{trailBehind};
+ghost use Rattle.session.specs.Outcomes.{requiredAnswer, openAnswer, openNumbers, decideAnswer, decideNumbers, backtrackAnswer, backtrackNumbers, lookupAnswer, totalAnswer, copyAnswer, copyNumbers};
+ghost use Rattle.capi.specs.Codes.{conflictCode, refusalCode, readingCode, answerCode, backCode, assignedCode, countCode, sumCode, sumAfter};
+
+fn refusal(number: u32) -> u64
+    ensures { λ r. ⌜ r ≡ refusalCode number ⌝ }
+{
+    2 * 4294967296 + number as u64
+}
+
+fn reading_code(reading: book::Reading) -> u64
+    ensures { λ r. ⌜ r ≡ readingCode reading ⌝ }
+{
+    match reading {
+        book::Reading::Book {
+            variables: _,
+            clauses: _,
+            literals: _,
+        } => 0,
+        book::Reading::Refused(number) => refusal(number),
+    }
+}
+
+fn answer_code(answer: session::Answer) -> u64
+    ensures { λ r. ⌜ r ≡ answerCode answer ⌝ }
+{
+    match answer {
+        session::Answer::Implied(n) => n as u64,
+        session::Answer::Conflict(clause) => 4294967296 + clause as u64,
+        session::Answer::Refused(number) => refusal(number),
+    }
+}
+
+fn back_code(back: session::Back) -> u64
+    ensures { λ r. ⌜ r ≡ backCode back ⌝ }
+{
+    match back {
+        session::Back::Done => 0,
+        session::Back::Refused(number) => refusal(number),
+    }
+}
+
+fn assigned_code(assigned: session::Assigned) -> u64
+    ensures { λ r. ⌜ r ≡ assignedCode assigned ⌝ }
+{
+    match assigned {
+        session::Assigned::Open => 0,
+        session::Assigned::Positive => 1,
+        session::Assigned::Negative => 2,
+        session::Assigned::Refused(number) => refusal(number),
+    }
+}
+
+fn count_code(count: session::Count) -> u64
+    ensures { λ r. ⌜ r ≡ countCode count ⌝ }
+{
+    match count {
+        session::Count::Of(n) => n as u64,
+        session::Count::Refused(number) => refusal(number),
+    }
+}
+
+// Reads a rule book.
+#[no_mangle]
+pub extern "C" fn tariff_read(text: &[u8], book: &mut [u32]) -> u64
+    ensures { λ r. ⌜ r ≡ readingCode (answerTo (readText (now (text .entry))) (length (now (book .entry)))) ⌝ }
+    ensures { λ r. ⌜ now (book .exit) ≡ numbersAfter (readText (now (text .entry))) (now (book .entry)) ⌝ }
+{
+    reading_code(book::read(text, book))
+}
+
+// The required length of a session.
+#[no_mangle]
+pub extern "C" fn tariff_required_length(book: &[u32]) -> u64
+    ensures { λ r. ⌜ r ≡ countCode (requiredAnswer (now (book .entry))) ⌝ }
+{
+    count_code(session::required_length(book))
+}
+
+// Opens a session.
+#[no_mangle]
+pub extern "C" fn tariff_open(book: &[u32], session: &mut [u32]) -> u64
+    ensures { λ r. ⌜ r ≡ answerCode (openAnswer (now (book .entry)) (length (now (session .entry)))) ⌝ }
+    ensures { λ r. ⌜ now (session .exit) ≡ openNumbers (now (book .entry)) (now (session .entry)) ⌝ }
+{
+    answer_code(session::open(book, session))
+}
+
+// Decides a literal and propagates.
+#[no_mangle]
+pub extern "C" fn tariff_decide(book: &[u32], session: &mut [u32], literal: u32) -> u64
+    ensures { λ r. ⌜ r ≡ answerCode (decideAnswer (now (book .entry)) (now (session .entry)) literal) ⌝ }
+    ensures { λ r. ⌜ now (session .exit) ≡ decideNumbers (now (book .entry)) (now (session .entry)) literal ⌝ }
+{
+    answer_code(session::decide(book, session, literal))
+}
+
+// Takes back the last k decisions.
+#[no_mangle]
+pub extern "C" fn tariff_backtrack(book: &[u32], session: &mut [u32], k: u32) -> u64
+    ensures { λ r. ⌜ r ≡ backCode (backtrackAnswer (now (book .entry)) (now (session .entry)) k) ⌝ }
+    ensures { λ r. ⌜ now (session .exit) ≡ backtrackNumbers (now (book .entry)) (now (session .entry)) k ⌝ }
+{
+    back_code(session::backtrack(book, session, k))
+}
+
+// How a variable is assigned.
+#[no_mangle]
+pub extern "C" fn tariff_lookup(book: &[u32], session: &[u32], variable: u32) -> u64
+    ensures { λ r. ⌜ r ≡ assignedCode (lookupAnswer (now (book .entry)) (now (session .entry)) variable) ⌝ }
+{
+    assigned_code(session::lookup(book, session, variable))
+}
+
+// Copies the trail's literals behind the first `before` to `out`: what fits.
+#[no_mangle]
+pub extern "C" fn tariff_trail_from(
+    book: &[u32],
+    session: &[u32],
+    before: u32,
+    out: &mut [u32],
+) -> u64
+    ensures { λ r. ⌜ r ≡ countCode (copyAnswer (now (book .entry)) (now (session .entry)) (trailBehind before)) ⌝ }
+    ensures { λ r. ⌜ now (out .exit) ≡ copyNumbers (now (book .entry)) (now (session .entry)) (trailBehind before) (now (out .entry)) ⌝ }
+{
+    count_code(session::trail_from(book, session, before, out))
+}
+
+// The sum of all checks, into `sum`.
+#[no_mangle]
+pub extern "C" fn tariff_total(book: &[u32], session: &[u32], sum: &mut u64) -> u64
+    ensures { λ r. ⌜ r ≡ sumCode (totalAnswer (now (book .entry)) (now (session .entry))) ⌝ }
+    ensures { λ r. ⌜ now (sum .exit) ≡ sumAfter (totalAnswer (now (book .entry)) (now (session .entry))) (now (sum .entry)) ⌝ }
+{
+    match session::total(book, session) {
+        session::Sum::Checks(checks) => {
+            *sum = checks;
+            0
+        }
+        session::Sum::Refused(number) => refusal(number),
+    }
+}

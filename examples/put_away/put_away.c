@@ -1,0 +1,67 @@
+/* Opens a session on a tariff, puts its numbers away in a file, takes them up again and goes on; then damages one number. */
+#include "tariff.h"
+#include <stdio.h>
+#include <stdlib.h>
+#include <string.h>
+
+static uint8_t text[60001];
+static uint32_t book[TARIFF_BOOK];
+static uint32_t session[TARIFF_SESSION];
+
+static void fail(const char *what) {
+    fprintf(stderr, "put_away: %s\n", what);
+    exit(1);
+}
+
+/* Says a call and what it answered. */
+static void say(const char *call, uint64_t answer) {
+    static const char *kinds[] = {"accepted", "rule", "refused"};
+    printf("%s: %s %u\n", call, kinds[tariff_kind(answer)], tariff_number(answer));
+}
+
+static void read_tariff(const char *path) {
+    FILE *file = fopen(path, "rb");
+    if (!file) fail("no such tariff");
+    size_t length = fread(text, 1, sizeof text, file);
+    fclose(file);
+    uint64_t answer = tariff_read(text, length, book, TARIFF_BOOK);
+    say("read", answer);
+    if (tariff_kind(answer) != TARIFF_ACCEPTED) exit(1);
+}
+
+/* The numbers are the session: as many as the book asks for, and no more, go to the file. */
+static void put_away(const char *path, size_t needed) {
+    FILE *file = fopen(path, "wb");
+    if (!file || fwrite(session, sizeof *session, needed, file) != needed || fclose(file)) fail("not written");
+}
+
+/* Whatever the file holds, the next call examines it. */
+static size_t take_up(const char *path) {
+    FILE *file = fopen(path, "rb");
+    if (!file) fail("nothing was put away");
+    size_t length = fread(session, sizeof *session, TARIFF_SESSION, file);
+    fclose(file);
+    return length;
+}
+
+int main(int count, char **words) {
+    if (count != 3) fail("usage: put_away TARIFF FILE");
+    uint64_t checks;
+    read_tariff(words[1]);
+    size_t needed = tariff_number(tariff_required_length(book, TARIFF_BOOK));
+    say("open", tariff_open(book, TARIFF_BOOK, session, needed));
+    say("choose -1", tariff_decide(book, TARIFF_BOOK, session, needed, tariff_barred(1)));
+    put_away(words[2], needed);
+    memset(session, 255, sizeof session);
+    say("lookup 1 in other numbers", tariff_lookup(book, TARIFF_BOOK, session, needed, 1));
+    size_t length = take_up(words[2]);
+    say("lookup 1 in the numbers taken up", tariff_lookup(book, TARIFF_BOOK, session, length, 1));
+    say("choose -2", tariff_decide(book, TARIFF_BOOK, session, length, tariff_barred(2)));
+    say("total", tariff_total(book, TARIFF_BOOK, session, length, &checks));
+    printf("checks %llu\n", (unsigned long long)checks);
+    session[4] ^= 1;
+    say("back 1 with the first settled literal turned", tariff_backtrack(book, TARIFF_BOOK, session, length, 1));
+    session[4] ^= 1;
+    say("back 1", tariff_backtrack(book, TARIFF_BOOK, session, length, 1));
+    return 0;
+}

@@ -1,0 +1,22 @@
+#!/usr/bin/env bash
+# An outside solver: what `desk` settles after every line is the unit closure that CaDiCaL fixes. --selftest: only wrong programs are tried.
+set -euo pipefail
+cd "$(dirname "$0")/.."
+. tests/support/common.sh
+
+need_cadical() {
+    [ -e /usr/include/cadical.hpp ] && return
+    echo "solver: installing Debian's libcadical-dev"
+    (apt-get install -y -q libcadical-dev || (apt-get update -q && apt-get install -y -q libcadical-dev)) >/dev/null 2>&1 || true
+    [ -e /usr/include/cadical.hpp ] && return
+    echo "$0: /usr/include/cadical.hpp is missing and cannot be installed; as root: apt-get install libcadical-dev" >&2
+    exit 1
+}
+
+need_program
+need_cadical
+build solver -lcadical
+self_test solver 60 "drops the last forced literal" "turns the last forced literal" "doubles the last forced literal" \
+    "swaps forced literals" "misses contradictions" "contradicts each time" "names the next rule" "says 14 for 15" "says 13 for 18" \
+    "takes back too much" "keeps choices" "counts a choice too many" "counts a take-back too many" "checks above the ceiling"
+run_cases solver "$@"
