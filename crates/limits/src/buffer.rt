@@ -13,7 +13,7 @@ fn rooms() {
         out one too short for C 0|p cnf 1 0\n|3;\
         out exact for C 0|p cnf 1 0\n|4;\
         out empty and a missing last 0|p cnf 2 1\n1 -2\n|0;\
-        out one too short and a surplus clause|p cnf 2 1\n1 -2 0\n1 0\n|6;\
+        out one too short and a surplus rule|p cnf 2 1\n1 -2 0\n1 0\n|6;\
         out too long for a refused text|p cnf 2 1\n1 1 0\n|18",
     );
 }

@@ -7,9 +7,9 @@ fn count() {
     run(
         Kind::Text,
         b"missing last 0|p cnf 2 1\n1 -2\n;\
-        no clause for C 1|p cnf 2 1\n;\
-        one clause for C 2|p cnf 2 2\n1 -2 0\n;\
-        one clause and a missing last 0 for C 3|p cnf 2 3\n1 0 -2\n",
+        no rule for C 1|p cnf 2 1\n;\
+        one rule for C 2|p cnf 2 2\n1 -2 0\n;\
+        one rule and a missing last 0 for C 3|p cnf 2 3\n1 0 -2\n",
     );
 }
 
@@ -17,13 +17,13 @@ fn count() {
 fn surplus() {
     run(
         Kind::Text,
-        b"surplus clause that begins with a literal|p cnf 2 1\n1 -2 0\n1 0\n;\
-        surplus clause that begins with a literal, without its 0|p cnf 2 1\n1 -2 0\n1;\
-        surplus clause that begins with a 0|p cnf 2 1\n1 -2 0\n0\n;\
-        surplus clause that begins with a word that is no number|p cnf 2 1\n1 -2 0\nx 0\n;\
-        surplus clause that begins with -0|p cnf 2 1\n1 -2 0\n-0\n;\
-        surplus clause that begins with a variable over V|p cnf 2 1\n1 -2 0\n3 0\n;\
-        surplus clause for C 0|p cnf 2 0\n1 0\n;\
+        b"surplus rule that begins with a literal|p cnf 2 1\n1 -2 0\n1 0\n;\
+        surplus rule that begins with a literal, without its 0|p cnf 2 1\n1 -2 0\n1;\
+        surplus rule that begins with a 0|p cnf 2 1\n1 -2 0\n0\n;\
+        surplus rule that begins with a word that is no number|p cnf 2 1\n1 -2 0\nx 0\n;\
+        surplus rule that begins with -0|p cnf 2 1\n1 -2 0\n-0\n;\
+        surplus rule that begins with a feature over V|p cnf 2 1\n1 -2 0\n3 0\n;\
+        surplus rule for C 0|p cnf 2 0\n1 0\n;\
         a 0 for C 0|p cnf 2 0\n0\n",
     );
 }
@@ -32,13 +32,13 @@ fn surplus() {
 fn lengths() {
     run(
         Kind::Text,
-        b"clause of 0 literals|p cnf 2 1\n0\n;\
-        clause of 1 literal|p cnf 2 1\n1 0\n",
+        b"rule of 0 literals|p cnf 2 1\n0\n;\
+        rule of 1 literal|p cnf 2 1\n1 0\n",
     );
     run(
         Kind::Built,
-        b"clause of 255 literals|p cnf 255 1\n||0|255|0\n;\
-        clause of 256 literals|p cnf 256 1\n||0|256|0\n;\
+        b"rule of 255 literals|p cnf 255 1\n||0|255|0\n;\
+        rule of 256 literals|p cnf 256 1\n||0|256|0\n;\
         6000 literals|p cnf 4 1500\n|1 2 3 4 0\n|1500|0|;\
         6001 literals|p cnf 5 1500\n|1 2 3 4 0\n|1499|0|1 2 3 4 5 0\n",
     );
@@ -48,15 +48,15 @@ fn lengths() {
 fn variables() {
     run(
         Kind::Text,
-        b"variable V|p cnf 2 1\n2 0\n;\
-        variable V + 1|p cnf 2 1\n3 0\n;\
-        variable V + 1, negative|p cnf 2 1\n-3 0\n;\
+        b"feature V|p cnf 2 1\n2 0\n;\
+        feature V + 1|p cnf 2 1\n3 0\n;\
+        feature V + 1, barred|p cnf 2 1\n-3 0\n;\
         1 1 0|p cnf 2 1\n1 1 0\n;\
         1 -1 0|p cnf 2 1\n1 -1 0\n;\
         1 2 1 0|p cnf 2 1\n1 2 1 0\n;\
         1 01 0|p cnf 2 1\n1 01 0\n;\
-        variable twice around a comment|p cnf 2 1\n1\nc\n1 0\n;\
-        variable in two clauses|p cnf 2 2\n1 0 1 0\n",
+        feature twice around a comment|p cnf 2 1\n1\nc\n1 0\n;\
+        feature in two rules|p cnf 2 2\n1 0 1 0\n",
     );
 }
 

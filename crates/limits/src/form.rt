@@ -73,10 +73,10 @@ fn literals() {
         literal 2 V + 1|2 2 3 0 2 3 2 5 5;\
         literal 2 V + 2|2 2 3 0 2 3 2 5 6;\
         literal 4294967295|2 2 3 0 2 3 2 5 4294967295;\
-        variable twice|2 2 3 0 2 3 2 2 4;\
-        variable with both signs|2 2 3 0 2 3 2 3 4;\
-        variable twice, not side by side|2 1 3 0 3 2 4 3;\
-        variable in two clauses of 1|2 2 2 0 1 2 2 3",
+        feature twice|2 2 3 0 2 3 2 2 4;\
+        feature with both signs|2 2 3 0 2 3 2 3 4;\
+        feature twice, not side by side|2 1 3 0 3 2 4 3;\
+        feature in two rules of 1|2 2 2 0 1 2 2 3",
     );
 }
 
@@ -84,10 +84,10 @@ fn literals() {
 fn accessors() {
     run(
         Kind::Clause,
-        b"clause 0|0|2 2 3 0 2 3 2 5 4;\
-        clause 1|1|2 2 3 0 2 3 2 5 4;\
-        clause 9 of 2|9|2 2 3 0 2 3 2 5 4;\
-        clause 0 of no formula|0|",
+        b"rule 0|0|2 2 3 0 2 3 2 5 4;\
+        rule 1|1|2 2 3 0 2 3 2 5 4;\
+        rule 9 of 2|9|2 2 3 0 2 3 2 5 4;\
+        rule 0 of no book|0|",
     );
 }
 

@@ -26,7 +26,7 @@ fn words() {
         header with C on the next line|p cnf 2\n1\n1 -2 0\n;\
         header with p only|p\n1 -2 0\n;\
         header with a surplus word|p cnf 2 1 0\n1 -2 0\n;\
-        header with a clause in its line|p cnf 2 1 1 -2 0\n;\
+        header with a rule in its line|p cnf 2 1 1 -2 0\n;\
         header with P|P cnf 2 1\n1 -2 0\n;\
         header with another format|p dnf 2 1\n1 -2 0\n;\
         header with CNF|p CNF 2 1\n1 -2 0\n;\
@@ -57,7 +57,7 @@ fn lines() {
         blank line before the header|\np cnf 2 1\n1 -2 0\n;\
         blank line between a comment and the header|c a tariff\n\np cnf 2 1\n1 -2 0\n;\
         header in a comment|cp cnf 2 1\n1 -2 0\n;\
-        clauses without a header|1 -2 0\n;\
+        rules without a header|1 -2 0\n;\
         empty text|;\
         a line end only|\n;\
         blanks only| \t\r;\

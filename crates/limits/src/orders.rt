@@ -49,7 +49,7 @@ fn end() {
         Kind::Text,
         b"4 before a missing last 0|p cnf 2 1\n1 x;\
         5 before a missing last 0|p cnf 2 1\n3;\
-        6 before a missing clause|p cnf 2 2\n0\n;\
+        6 before a missing rule|p cnf 2 2\n0\n;\
         7 before a missing last 0|p cnf 2 1\n1 1",
     );
 }

@@ -63,8 +63,8 @@ fn bytes() {
 fn blanks() {
     run(
         Kind::Text,
-        b"clause over three lines|p cnf 2 1\n1\n-2\n0\n;\
-        two clauses in one line|p cnf 2 2\n1 0 -2 0\n;\
+        b"rule over three lines|p cnf 2 1\n1\n-2\n0\n;\
+        two rules in one line|p cnf 2 2\n1 0 -2 0\n;\
         blank lines between numbers|p cnf 2 1\n\n1\n \n\t\n-2 0\n\n;\
         tabs and carriage returns between numbers|p cnf 2 1\n1\t-2\r0\r\n;\
         last 0 without a line end|p cnf 2 1\n1 -2 0;\
@@ -76,8 +76,8 @@ fn blanks() {
 fn comments() {
     run(
         Kind::Text,
-        b"comment in the middle of a clause|p cnf 2 1\n1\nc 9 x 0\n-2 0\n;\
-        comment without a blank in the middle of a clause|p cnf 2 1\n1\nc9\n-2 0\n;\
+        b"comment in the middle of a rule|p cnf 2 1\n1\nc 9 x 0\n-2 0\n;\
+        comment without a blank in the middle of a rule|p cnf 2 1\n1\nc9\n-2 0\n;\
         comment behind the header|p cnf 2 1\nc 9 x 0\n1 -2 0\n;\
         comment as the last line without a line end|p cnf 2 1\n1 -2 0\nc 9 x 0;\
         a c as the last line without a line end|p cnf 2 1\n1 -2 0\nc;\
