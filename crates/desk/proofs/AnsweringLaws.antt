@@ -6,7 +6,7 @@ use mathlib.Core.List.{List}
 use native.Mathlib.Omega.{arith}
 use lib.Dec.{eqb}
 use lib.ListN.{length, take, drop, length-append, length-drop}
-use lib.Seq.{take-all, take-at}
+use lib.Seq.{take-all, take-at, drop-append-le}
 use Rattle.base.specs.Lists.{sum, table, copied}
 use Rattle.book.specs.Numbers.{formulaOf}
 use Rattle.book.proofs.WellFormedLaws.{well-formed-sound, well-formed-limited}
@@ -16,14 +16,16 @@ use Rattle.run.specs.Trail.{literalAt, decisions}
 use Rattle.run.specs.Run.{Run, inConflict, decide, backtrack, trailBehind}
 use Rattle.run.specs.Calls.{Call, decision, backtrackBy, decideRefusal, backtrackRefusal, refusal, step, perform}
 use Rattle.run.proofs.Theorems.{step-valid, decide-extends}
-use Rattle.session.specs.Outcomes.{propagatedAnswer, decideAnswer, decideNumbers, decisionRefusal, backtrackAnswer, backtrackNumbers, sessionBacktrackRefusal, readRefusal, figuresOf, figuresAnswer, totalAnswer, copyNumbers, callNumbers}
+use Rattle.session.specs.Outcomes.{propagatedAnswer, decideAnswer, decideNumbers, decisionRefusal, backtrackAnswer, backtrackNumbers, sessionBacktrackRefusal, readRefusal, figuresOf, figuresAnswer, totalAnswer, copyAnswer, copyNumbers, callNumbers}
 use Rattle.session.specs.Layout.{held}
+use Rattle.base.proofs.Lists.{part}
 use Rattle.base.proofs.Tables.{length-table}
 use Rattle.session.proofs.CallLaws.{held-after, call-refusal, call-numbers}
 use Rattle.session.specs.declared.Answer.{Answer}
 use Rattle.session.specs.declared.Answer.the-variants as answer
 use Rattle.session.specs.declared.Back.{Back}
 use Rattle.session.specs.declared.Back.the-variants as back
+use Rattle.session.specs.declared.Count.the-variants as count
 use Rattle.session.specs.declared.Shown.the-variants as shown
 use Rattle.session.specs.declared.Sum.the-variants as total
 use Rattle.script.specs.declared.Line.the-variants as line
@@ -51,26 +53,37 @@ module _ (book session : List ℕ) (run : Run) (buffer : List ℕ) (h : Holds bo
   unfolding totalAnswer
   total-is = rw (read-none, held-is)
 
-  -- the first n numbers of a copy of the last n literals of the trail are these
-  pub copy-is : (n : ℕ) (out : List ℕ) → n ≤ length (run .trail) → n ≤ length out
-      → take n (copyNumbers book session (trailBehind (length (run .trail) - n)) out) ≡ trailBehind (length (run .trail) - n) run
+  -- the whole trail is copied: how many literals it has, and the last n of them
+  pub count-is : copyAnswer book session (trailBehind 0) ≡ count.Of (length (run .trail))
+  unfolding copyAnswer trailBehind
+  count-is = rw (read-none, held-is, length-table)
+
+  copy-is : (n : ℕ) (out : List ℕ) → n ≤ length (run .trail) → length (run .trail) ≤ length out
+      → part (length (run .trail) - n) (length (run .trail)) (copyNumbers book session (trailBehind 0) out) ≡ trailBehind (length (run .trail) - n) run
   unfolding copyNumbers copied trailBehind
   copy-is n out few room =
-      let source : List ℕ = drop (length (run .trail) - n) (table (length (run .trail)) (λ (i : ℕ). literalAt (run .trail) (suc i))) in
-      let size : length source ≡ n = length-drop (length (run .trail) - n) (table (length (run .trail)) (λ (i : ℕ). literalAt (run .trail) (suc i))) ∙ rw length-table (omega arith) in
-      rw (read-none, held-is, take-all (length out) source (omega arith)) (take-at source (drop (length source) out) n size)
+      let first : ℕ = length (run .trail) - n in
+      let whole : List ℕ = table (length (run .trail)) (λ (i : ℕ). literalAt (run .trail) (suc i)) in
+      let size : length whole ≡ length (run .trail) = rw length-table in
+      rw (
+        read-none,
+        held-is,
+        take-all (length out) whole (omega arith),
+        drop-append-le first whole (drop (length whole) out) (omega arith),
+      )
+      (take-at (drop first whole) (drop (length whole) out) (length (run .trail) - first) (length-drop first whole ∙ ap (λ (k : ℕ). k - first) size))
 
   pub trail-few : length (run .trail) ≤ 500
   trail-few = omega (arith, trail-short (valid-structure (h .valid) .trailed), well-formed-limited book (h .well) .variables)
 
-  -- the literals that a call implied
-  pub implied-prints : (cause : Cause) (implied trail n : ℕ) (zeros literals out now : List ℕ) (r : ℕ) → trail ≡ length (run .trail) → n ≡ implied
-      → implied ≤ length (run .trail) → n ≤ length zeros → literals ≡ copyNumbers book session (trailBehind (trail - implied)) zeros
-      → (r ≡ fitting (impliedLine cause (take n literals)) out) × (now ≡ copied (impliedLine cause (take n literals)) out)
+  -- the literals that a call implied: the last ones of the trail
+  pub implied-prints : (cause : Cause) (implied from to : ℕ) (zeros literals out now : List ℕ) (r : ℕ) → to ≡ length (run .trail)
+      → from ≡ length (run .trail) - implied → implied ≤ length (run .trail) → length (run .trail) ≤ length zeros
+      → literals ≡ copyNumbers book session (trailBehind 0) zeros
+      → (r ≡ fitting (impliedLine cause (part from to literals)) out) × (now ≡ copied (impliedLine cause (part from to literals)) out)
       → Prints (impliedLine cause (trailBehind (length (run .trail) - implied) run)) out now r
-  implied-prints cause implied trail n zeros literals out now r t i few room is p =
-      let same : take n literals ≡ trailBehind (length (run .trail) - implied) run
-      = rw (is, t, i) (copy-is implied zeros few (omega arith)) in
+  implied-prints cause implied from to zeros literals out now r t f few room is p =
+      let same : part from to literals ≡ trailBehind (length (run .trail) - implied) run = rw (is, f, t) (copy-is implied zeros few room) in
       record { bytes = rw same at (p .1); count = rw same at (p .0) }
 
   -- the answer of a call that propagated, by its cases

@@ -30,9 +30,6 @@ pub record Prints (line before now : List ℕ) (r : ℕ) : Type 0 where
   pub count : r ≡ fitting line before
 
 -- the promises, whatever run the session holds
-abbrev pub Counted : List ℕ → List ℕ → ℕ → Type 0
-Counted book session r = (run : Run) (buffer : List ℕ) → Holds book session run buffer → r ≡ length (run .trail)
-
 abbrev pub ShowsImplied : List ℕ → List ℕ → Cause → ℕ → List ℕ → List ℕ → ℕ → Type 0
 ShowsImplied book session cause implied out now r =
     (run : Run) (buffer : List ℕ) → Holds book session run buffer → implied ≤ length (run .trail)

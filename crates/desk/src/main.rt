@@ -1,6 +1,6 @@
 // Reads the rule book `tariff.cnf`, then a script from standard input, and prints an answer to each line.
 ghost use mathlib.Core.Path.{_≡_};
-ghost use Rattle.desk.specs.Answering.{Counted, ShowsImplied, Propagated, Answers, Finishes};
+ghost use Rattle.desk.specs.Answering.{ShowsImplied, Propagated, Answers, Finishes};
 use libc::STDIN_FILENO;
 use libc::STDOUT_FILENO;
 
@@ -28,21 +28,6 @@ fn read_text(text: &mut [u8]) -> usize {
     n
 }
 
-// How many literals are on the trail.
-fn trail_length(book: &[u32], session: &[u32]) -> u32
-    ensures { λ r. ⌜ Counted (now (book .entry)) (now (session .entry)) r ⌝ }
-{
-    match session::figures(book, session) {
-        session::Shown::Refused(_) => 0,
-        session::Shown::Of {
-            decisions: _,
-            backtracks: _,
-            trail,
-            conflict: _,
-        } => trail,
-    }
-}
-
 // The line of a call that implied so many literals: the last ones on the trail.
 fn show_implied(
     book: &[u32],
@@ -54,16 +39,20 @@ fn show_implied(
     ensures { λ r. ⌜ ShowsImplied (now (book .entry)) (now (session .entry)) cause implied (now (out .entry)) (now (out .exit)) r ⌝ }
 {
     let mut literals = [0u32; 500];
-    let trail = trail_length(book, session);
-    let n = wide(implied);
-    if trail < implied {
-        return 0;
+    match session::trail_from(book, session, 0, &mut literals) {
+        session::Count::Refused(_) => 0,
+        session::Count::Of(trail) => {
+            if trail < implied {
+                return 0;
+            }
+            if 500 < trail {
+                return 0;
+            }
+            let from = wide(trail - implied);
+            let to = wide(trail);
+            script::write_implied(cause, &literals[from..to], out)
+        }
     }
-    if 500 < n {
-        return 0;
-    }
-    session::trail_from(book, session, trail - implied, &mut literals);
-    script::write_implied(cause, &literals[..n], out)
 }
 
 // The line of an opening or a decision.

@@ -1,75 +1,91 @@
 -- `show_implied` meets its contract. Assumes nothing.
-use mathlib.Core.Path.{sym}
+use Prim.Native.Nat.{ℕ}
+use mathlib.Core.Path.{_≡_, sym, _∙_}
 use native.Mathlib.Omega.{arith}
-use lib.Seq.{length-take-le}
-use Rattle.desk.proofs.AnsweringLaws.{trail-few, implied-prints}
+use lib.ListN.{length}
+use Rattle.desk.proofs.AnsweringLaws.{count-is, trail-few, implied-prints}
 use borrow.Author.Needs.{needs}
 use Rattle.desk.proofs.show_implied.Statement.{statement}
 use Rattle.desk.proofs.show_implied.Tie as tie
 use Rattle.desk.proofs.show_implied.Reads as reads
 use Rattle.desk.proofs.show_implied.Lts as lts
-use Rattle.desk.proofs.trail_length.Reads as trail-length-reads
 use Rattle.desk.proofs.wide.Reads as wide-reads
 use Rattle.script.proofs.write_implied.Reads as write-implied-reads
 use Rattle.session.proofs.trail_from.Reads as trail-from-reads
 
--- src/main.rt:51:9
-trail-length-requires : tie.Need-trail-length-requires
-trail-length-requires c κs = search needs
-
--- src/main.rt:52:9
-wide-requires : tie.Need-wide-requires
-wide-requires c κs = search needs
-
--- src/main.rt:54:9
-returns : tie.Need-returns
-returns c = λ run buffer h few. absurd (omega (arith, c .before .before .trail-length .ensures run buffer h))
-
--- src/main.rt:57:9
-returns-2 : tie.Need-returns-2
-returns-2 c = λ run buffer h few. absurd (omega (arith, c .before .before .wide .ensures, trail-few (c .before .before .before .before .before .before .before .args .book .now) (c .before .before .before .before .before .before .before .args .session .now) run buffer h))
-
--- src/main.rt:59:57
 slice-aggregate-trail-from : tie.Need-slice-aggregate-trail-from
 slice-aggregate-trail-from c = search needs
 
--- src/main.rt:59:5
 trail-from-requires : tie.Need-trail-from-requires
 trail-from-requires c κs = search needs
 
--- src/main.rt:60:33
-array-share-prefix-literals : tie.Need-array-share-prefix-literals
-array-share-prefix-literals c = search needs
+enum-told : tie.Need-enum-told
+enum-told c = search needs
 
--- src/main.rt:60:33
-slice-aggregate-write-implied : tie.Need-slice-aggregate-write-implied
-slice-aggregate-write-implied c =
-    sym (length-take-le (c .before .before .before .before .before .before .wide .result) (c .before .before .trail-from .last .1 .1 .1 .0) (search needs))
+enum-known-trail : tie.Need-enum-known-trail
+enum-known-trail c = search needs
 
--- src/main.rt:60:5
+returns : tie.Need-returns
+returns c = λ run buffer h few.
+    let trail : c .before .before .trail .given .0 .0 ≡ length (run .trail) = cc (sym (c .before .before .trail .given .1) ∙ c .before .before .before .before .before .trail-from .ensures .0 ∙ count-is (c .before .before .before .before .before .before .before .before .before .before .args .book .now) (c .before .before .before .before .before .before .before .before .before .before .args .session .now) run buffer h) in
+    absurd (omega (arith, c .if1 .taken))
+
+returns-2 : tie.Need-returns-2
+returns-2 c = λ run buffer h few.
+    let trail : c .before .before .before .trail .given .0 .0 ≡ length (run .trail) = cc (sym (c .before .before .before .trail .given .1) ∙ c .before .before .before .before .before .before .trail-from .ensures .0 ∙ count-is (c .before .before .before .before .before .before .before .before .before .before .before .args .book .now) (c .before .before .before .before .before .before .before .before .before .before .before .args .session .now) run buffer h) in
+    absurd (omega (arith, c .if2 .taken, trail-few (c .before .before .before .before .before .before .before .before .before .before .before .args .book .now) (c .before .before .before .before .before .before .before .before .before .before .before .args .session .now) run buffer h))
+
+wide-requires : tie.Need-wide-requires
+wide-requires c κs = search needs
+
+wide-requires-2 : tie.Need-wide-requires-2
+wide-requires-2 c κs = search needs
+
+mul-write-implied : tie.Need-mul-write-implied
+mul-write-implied c = search needs
+
+sub-write-implied : tie.Need-sub-write-implied
+sub-write-implied c = search needs
+
+part-write-implied-start : tie.Need-part-write-implied-start
+part-write-implied-start c = search needs
+
+part-write-implied-end : tie.Need-part-write-implied-end
+part-write-implied-end c = search needs
+
 write-implied-requires : tie.Need-write-implied-requires
 write-implied-requires c κs = search needs
 
--- src/main.rt:47:1
+returns-3 : tie.Need-returns-3
+returns-3 c = λ run buffer h few.
+    let z : _≡_ {A = ℕ} 0 1 = cc (sym (c .enum-told .given .1) ∙ c .before .before .before .trail-from .ensures .0 ∙ count-is (c .before .before .before .before .before .before .before .before .args .book .now) (c .before .before .before .before .before .before .before .before .args .session .now) run buffer h) in absurd (omega arith)
+
 same-length : tie.Need-same-length
 same-length c = search needs
 
--- src/main.rt:47:1
-returns-3 : tie.Need-returns-3
-returns-3 c = λ run buffer h few. implied-prints (c .before .before .before .before .before .before .before .before .before .before .before .before .before .before .before .args .book .now) (c .before .before .before .before .before .before .before .before .before .before .before .before .before .before .before .args .session .now) run buffer h (c .before .before .before .before .before .before .before .before .before .before .before .before .before .before .before .args .cause) (c .before .before .before .before .before .before .before .before .before .before .before .before .before .before .before .args .implied) _ _ _ _ (c .before .before .before .before .before .before .before .before .before .before .before .before .before .before .before .args .out .now) _ _ (c .before .before .before .before .before .before .before .before .before .before .before .trail-length .ensures run buffer h) (c .before .before .before .before .before .before .before .before .before .before .wide .ensures) few (omega arith) (c .before .before .before .before .before .before .trail-from .ensures .1) (c .before .before .write-implied .ensures)
+returns-4 : tie.Need-returns-4
+returns-4 c = λ run buffer h few.
+    let trail : c .before .before .before .before .before .before .before .before .before .before .before .trail .given .0 .0 ≡ length (run .trail) = cc (sym (c .before .before .before .before .before .before .before .before .before .before .before .trail .given .1) ∙ c .before .before .before .before .before .before .before .before .before .before .before .before .before .before .trail-from .ensures .0 ∙ count-is (c .before .before .before .before .before .before .before .before .before .before .before .before .before .before .before .before .before .before .before .args .book .now) (c .before .before .before .before .before .before .before .before .before .before .before .before .before .before .before .before .before .before .before .args .session .now) run buffer h) in
+    implied-prints (c .before .before .before .before .before .before .before .before .before .before .before .before .before .before .before .before .before .before .before .args .book .now) (c .before .before .before .before .before .before .before .before .before .before .before .before .before .before .before .before .before .before .before .args .session .now) run buffer h (c .before .before .before .before .before .before .before .before .before .before .before .before .before .before .before .before .before .before .before .args .cause) (c .before .before .before .before .before .before .before .before .before .before .before .before .before .before .before .before .before .before .before .args .implied) (c .before .before .before .before .before .before .before .wide .result) (c .before .before .before .before .before .before .wide2 .result) _ _ (c .before .before .before .before .before .before .before .before .before .before .before .before .before .before .before .before .before .before .before .args .out .now) _ _
+    (omega (arith, c .before .before .before .before .before .before .wide2 .ensures)) (omega (arith, c .before .before .before .before .before .before .before .wide .ensures)) few (omega (arith, c .before .before .before .before .before .before .before .before .if2 .left)) (c .before .before .before .before .before .before .before .before .before .before .before .before .before .before .trail-from .ensures .1) (c .before .before .write-implied .ensures)
 
 pub show-implied-spec : {M : Type 1} → statement M
 show-implied-spec =
     tie.close
     (tie.spec
-    trail-length-requires
-    wide-requires
-    returns
-    returns-2
     slice-aggregate-trail-from
     trail-from-requires
-    array-share-prefix-literals
-    slice-aggregate-write-implied
+    enum-told
+    enum-known-trail
+    returns
+    returns-2
+    wide-requires
+    wide-requires-2
+    mul-write-implied
+    sub-write-implied
+    part-write-implied-start
+    part-write-implied-end
     write-implied-requires
+    returns-3
     same-length
-    returns-3)
+    returns-4)
