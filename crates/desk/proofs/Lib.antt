@@ -1,2 +1,3 @@
 -- The laws of `desk`.
 pub mod AnsweringLaws
+pub mod FollowingLaws

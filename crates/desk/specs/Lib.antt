@@ -1,2 +1,3 @@
--- What the functions of `desk` promise.
+-- What the functions of `desk` promise: of one line, and of a script that comes byte by byte.
 pub mod Answering
+pub mod Following

@@ -1,6 +1,7 @@
 // Reads the rule book `tariff.cnf`, then a script from standard input, and prints an answer to each line.
 ghost use mathlib.Core.Path.{_≡_};
 ghost use Rattle.desk.specs.Answering.{ShowsImplied, Propagated, Answers, Finishes};
+ghost use Rattle.desk.specs.Following.{TakesByte, TakesBytes};
 use libc::STDIN_FILENO;
 use libc::STDOUT_FILENO;
 
@@ -90,7 +91,9 @@ fn answer(book: &[u32], session: &mut [u32], line: &[u8], out: &mut [u8]) -> usi
 }
 
 // Takes one byte of the script: a byte 10 has the line answered. A line of which 12 bytes are kept is malformed, whatever follows.
-fn take_byte(book: &[u32], session: &mut [u32], line: &mut [u8], kept: usize, byte: u8) -> usize {
+fn take_byte(book: &[u32], session: &mut [u32], line: &mut [u8], kept: usize, byte: u8) -> usize
+    ensures { λ r. ⌜ TakesByte (now (book .entry)) (now (session .entry)) (now (session .exit)) (now (line .entry)) (now (line .exit)) kept byte r ⌝ }
+{
     if byte == 10 {
         let mut out = [0u8; 4096];
         if kept <= line.len() {
@@ -112,7 +115,9 @@ fn take_bytes(
     line: &mut [u8],
     kept: usize,
     bytes: &[u8],
-) -> usize {
+) -> usize
+    ensures { λ r. ⌜ TakesBytes (now (book .entry)) (now (session .entry)) (now (session .exit)) (now (line .entry)) (now (line .exit)) kept (now (bytes .entry)) r ⌝ }
+{
     let mut end = kept;
     let mut i = 0;
     while i < bytes.len() {

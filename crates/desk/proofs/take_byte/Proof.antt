@@ -1,7 +1,9 @@
--- `take_byte` is safe and ends. Assumes nothing.
+-- `take_byte` meets its contract. Assumes nothing.
 use mathlib.Core.Path.{sym}
+use native.Mathlib.Omega.{arith}
 use lib.Seq.{length-take-le}
 use borrow.Author.Needs.{needs}
+use Rattle.desk.proofs.FollowingLaws.{takes-end, takes-never, takes-kept, takes-full}
 use Rattle.desk.proofs.take_byte.Statement.{statement}
 use Rattle.desk.proofs.take_byte.Tie as tie
 use Rattle.desk.proofs.take_byte.Reads as reads
@@ -43,11 +45,11 @@ same-length-2 c = search needs
 
 -- src/main.rt:99:9
 returns : tie.Need-returns
-returns c = search needs
+returns c = takes-end (c .before .before .before .before .before .before .before .before .before .before .before .before .before .before .args .book .now) (c .before .before .before .before .before .before .before .before .before .before .before .before .before .before .args .session .now) (c .before .before .before .before .before .before .before .before .before .before .before .before .before .before .args .line .now) (c .before .before .before .before .before .before .before .before .before .before .before .before .before .before .args .kept) (c .before .before .before .before .before .before .before .before .before .before .before .before .before .before .args .byte) _ _ _ _ (c .before .before .before .before .before .before .before .before .before .before .if1 .taken) (c .before .before .before .before .before .answer .ensures)
 
 -- src/main.rt:99:9
 returns-2 : tie.Need-returns-2
-returns-2 c = search needs
+returns-2 c = takes-never (c .before .before .before .before .before .args .book .now) (c .before .before .before .before .before .args .session .now) (c .before .before .before .before .before .args .line .now) (c .before .before .before .before .before .args .kept) (c .before .before .before .before .before .args .byte) _ _ _ (omega arith)
 
 -- src/main.rt:102:9
 slice-write-line : tie.Need-slice-write-line
@@ -63,11 +65,11 @@ same-length-3 c = search needs
 
 -- src/main.rt:103:9
 returns-3 : tie.Need-returns-3
-returns-3 c = search needs
+returns-3 c = takes-kept (c .before .before .before .before .before .args .book .now) (c .before .before .before .before .before .args .session .now) (c .before .before .before .before .before .args .line .now) (c .before .before .before .before .before .args .kept) (c .before .before .before .before .before .args .byte) (c .before .if1 .left) (omega arith)
 
 -- src/main.rt:92:1
 returns-4 : tie.Need-returns-4
-returns-4 c = search needs
+returns-4 c = takes-full (c .before .before .before .before .before .args .book .now) (c .before .before .before .before .before .args .session .now) (c .before .before .before .before .before .args .line .now) (c .before .before .before .before .before .args .kept) (c .before .before .before .before .before .args .byte) (c .before .if1 .left) (omega arith)
 
 pub take-byte-spec : {M : Type 1} → statement M
 take-byte-spec =

@@ -1,9 +1,11 @@
--- `take_bytes` is safe and ends: the bytes before i are taken. Assumes nothing.
+-- `take_bytes` meets its contract. The loop's invariant: the bytes before i are taken. The measure is how many are left. Assumes nothing.
 use Prim.Native.Nat.{_-_, _≤_}
 use mathlib.Core.Path.{_≡_, refl}
 use native.Mathlib.Omega.{arith}
 use borrow.Author.Needs.{needs}
-use lib.ListN.{length}
+use lib.ListN.{length, take}
+use Rattle.desk.specs.Following.{TakesBytes}
+use Rattle.desk.proofs.FollowingLaws.{takes-none, takes-more, takes-all}
 use Rattle.desk.proofs.take_bytes.Statement.{statement}
 use Rattle.desk.proofs.take_bytes.Tie as tie
 use Rattle.desk.proofs.take_bytes.Reads as reads
@@ -11,14 +13,16 @@ use Rattle.desk.proofs.take_bytes.Lts as lts
 use Rattle.desk.proofs.take_byte.Reads as take-byte-reads
 
 abbrev Inv-loop : tie.InvT-loop
-Inv-loop book session₀ line₀ kept bytes end₀ i₀ session line end i = (i ≤ length bytes) × (length session ≡ length session₀) × (length line ≡ length line₀)
+Inv-loop book session₀ line₀ kept bytes end₀ i₀ session line end i =
+    (i ≤ length bytes) × (length session ≡ length session₀) × (length line ≡ length line₀)
+    × TakesBytes book session₀ session line₀ line kept (take i bytes) end
 
 abbrev μ-loop : tie.MeasureT-loop
 μ-loop book session₀ line₀ kept bytes end₀ i₀ session line end i = length bytes - i
 
 -- src/main.rt:111:5
 loop-holds : tie.Need-loop-holds Inv-loop μ-loop
-loop-holds c = (omega arith, refl, refl)
+loop-holds c = (omega arith, refl, refl, takes-none (c .before .before .before .before .args .book .now) (c .before .before .before .before .args .session .now) (c .before .before .before .before .args .line .now) (c .before .before .before .before .args .kept) (c .before .before .before .before .args .bytes .now))
 
 -- src/main.rt:112:51
 shared-slice-read-take-byte : tie.Need-shared-slice-read-take-byte Inv-loop μ-loop
@@ -38,7 +42,12 @@ loop-less c = search needs
 
 -- src/main.rt:111:5
 loop-again : tie.Need-loop-again Inv-loop μ-loop
-loop-again c = search needs
+loop-again c = (
+  search needs,
+  search needs,
+  search needs,
+  takes-more (c .before .before .before .before .before .before .before .before .before .before .before .before .before .before .args .book .now) (c .before .before .before .before .before .before .before .before .before .before .before .before .before .before .args .session .now) (c .before .before .before .before .before .before .before .before .before .before .before .before .before .before .args .line .now) (c .before .before .before .before .before .before .before .before .before .before .before .before .before .before .args .kept) (c .before .before .before .before .before .before .before .before .before .before .before .before .before .before .args .bytes .now) (c .before .before .before .before .before .before .before .before .before .loop .i) _ _ _ _ _ _ (omega arith) (c .before .before .before .before .before .before .before .before .before .loop .inv .3) (c .before .before .before .before .take-byte .ensures),
+)
 
 -- src/main.rt:108:1
 same-length : tie.Need-same-length Inv-loop μ-loop
@@ -50,7 +59,7 @@ same-length-2 c = search needs
 
 -- src/main.rt:108:1
 returns : tie.Need-returns Inv-loop μ-loop
-returns c = search needs
+returns c = takes-all (c .before .before .before .before .before .before .args .book .now) (c .before .before .before .before .before .before .args .session .now) (c .before .before .before .before .before .before .args .line .now) (c .before .before .before .before .before .before .args .kept) (c .before .before .before .before .before .before .args .bytes .now) (c .before .loop .i) _ _ _ (omega arith) (c .before .loop .inv .3)
 
 pub take-bytes-spec : {M : Type 1} → statement M
 take-bytes-spec =
