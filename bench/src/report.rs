@@ -239,7 +239,9 @@ fn method() -> String {
          generic x86-64 at -O3. Buffers: the lent session is cleared before the opening that begins a round, the book is warm, and both\n\
          engines clear their own marks within each call. Books: V 500, C 1,500, L 6,000 (limits) and a tenth of each; `random` has random\n\
          clauses, `chain` a chain of implications through all variables and random clauses. A script has 200 decisions, with backtracks\n\
-         between them that are not counted. Seeds are fixed: instructions differ little from run to run, times with the machine's load.\n"
+         between them that are not counted. Seeds are fixed: instructions differ little from run to run, times with the machine's load.\n\
+         Ratios of times move by some hundredths between runs, so a goal that is met or missed by no more is level; the notes have several\n\
+         runs. The plain engine and reader are of the same authorship as the proved ones.\n"
     )
 }
 
