@@ -5,9 +5,9 @@ pub struct Places {
     pub trail: Range<usize>,
     pub levels: Range<usize>,
     pub values: Range<usize>,
-    pub heads: Range<usize>,
     pub watches: Range<usize>,
     pub pointers: Range<usize>,
+    pub heads: Range<usize>,
     pub links: Range<usize>,
 }
 
@@ -19,14 +19,18 @@ pub fn places(book: &[u32]) -> Places {
         end += length;
         end - length..end
     };
+    let [trail, levels, values] = [(); 3].map(|()| part(variables));
+    let [watches, pointers] = [2 * clauses, clauses].map(&mut part);
+    part(clauses); // the checks, of which any will do
+    let [heads, links] = [2 * variables, 2 * clauses].map(&mut part);
     Places {
-        trail: part(variables),
-        levels: part(variables),
-        values: part(variables),
-        heads: part(2 * variables),
-        watches: part(2 * clauses),
-        pointers: part(clauses),
-        links: part(2 * clauses),
+        trail,
+        levels,
+        values,
+        watches,
+        pointers,
+        heads,
+        links,
     }
 }
 

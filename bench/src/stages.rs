@@ -5,11 +5,11 @@ use crate::script::{Call, Workload};
 
 /// The stages in their order, with the function of the proved code; the last session passes.
 pub const STAGES: [(&str, &str); 5] = [
-    ("trail and values", "session::validate_trail::trail_passes"),
-    ("reasons", "session::validation::justified"),
-    ("watches and pointers", "session::validate_lists::cells_pass"),
-    ("watch lists", "session::validate_lists::lists_pass"),
-    ("fixpoint", "session::validation::fixpoint"),
+    ("trail and values", "validation::trail::trail_passes"),
+    ("reasons", "validation::reasons::justified"),
+    ("watches and pointers", "validation::cells::cells_pass"),
+    ("watch lists", "validation::lists::lists_pass"),
+    ("fixpoint", "validation::fixpoint::fixpoint"),
 ];
 
 /// Whether every stage can fail at its end: the last variable is open, and the last level has its decision only.

@@ -8,11 +8,11 @@ pub struct Parts<S> {
     pub trail: S,
     pub levels: S,
     pub values: S,
-    pub heads: S,
     pub watches: S,
     pub pointers: S,
-    pub links: S,
     pub checks: S,
+    pub heads: S,
+    pub links: S,
 }
 
 pub fn required_length(variables: usize, clauses: usize) -> usize {
@@ -24,21 +24,21 @@ fn split<S>(session: S, variables: usize, clauses: usize, at: impl Fn(S, usize) 
     let (trail, rest) = at(rest, variables);
     let (levels, rest) = at(rest, variables);
     let (values, rest) = at(rest, variables);
-    let (heads, rest) = at(rest, 2 * variables);
     let (watches, rest) = at(rest, 2 * clauses);
     let (pointers, rest) = at(rest, clauses);
-    let (links, rest) = at(rest, 2 * clauses);
-    let (checks, _) = at(rest, clauses);
+    let (checks, rest) = at(rest, clauses);
+    let (heads, rest) = at(rest, 2 * variables);
+    let (links, _) = at(rest, 2 * clauses);
     Parts {
         header,
         trail,
         levels,
         values,
-        heads,
         watches,
         pointers,
-        links,
         checks,
+        heads,
+        links,
     }
 }
 

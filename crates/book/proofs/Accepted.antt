@@ -17,7 +17,7 @@ use Rattle.book.specs.Text.{Piece, Token, literal, close, invalid, decim
 use Rattle.book.specs.Faults.{outside, bodyOf}
 use Rattle.book.specs.Reading.{maxText, Judged, refused, accepted, readText}
 use Rattle.book.specs.Inner.Walk.{walk, tokensOf, walkUnder, walkLines}
-use Rattle.book.proofs.LeastFault.{read-is-walk}
+use Rattle.book.proofs.ReadIsWalk.{read-is-walk}
 use Rattle.book.proofs.NumberLaws.{numbers-well-formed}
 use Rattle.book.proofs.SoundLaws.{literal-whole, clause-whole, clauses-decide-sound}
 
@@ -67,29 +67,29 @@ tokens-real [] = refl
 tokens-real (word ∷ words) = rw (token-real (word .bytes)) (tokens-real words)
 
 -- what was passed on the way to an accepted formula was not refused
-passed : (there : Bool) (n : ℕ) (rest : Judged) (formula : Formula) → cond there (refused n) rest ≡ accepted formula
+not-refused : (there : Bool) (n : ℕ) (rest : Judged) (formula : Formula) → cond there (refused n) rest ≡ accepted formula
     → (there ≡ false) × (rest ≡ accepted formula)
-passed true n rest formula h = let z : _≡_ {A = ℕ} 0 1 = cc in absurd (omega arith)
-passed false n rest formula h = (refl, h)
+not-refused true n rest formula h = let z : _≡_ {A = ℕ} 0 1 = cc in absurd (omega arith)
+not-refused false n rest formula h = (refl, h)
 
 -- what the walk has accepted so far is within the limits
-record Within (variables : ℕ) (done : List (List ℕ)) (current : List ℕ) : Type 0 where
+record WithinLimits (variables : ℕ) (done : List (List ℕ)) (current : List ℕ) : Type 0 where
   clauses-sound : all (soundClause variables) done ≡ true
   literals-within : all (literalWithin variables) current ≡ true
   variables-once : distinct (map variableOf current) ≡ true
   clause-short : length current ≤ maxClause
   literals-few : length (flat done) + length current ≤ maxLiterals
 
-within-none : (variables : ℕ) → Within variables [] []
+within-none : (variables : ℕ) → WithinLimits variables [] []
 unfolding all distinct flat
 within-none variables =
     record { clauses-sound = refl; literals-within = refl; variables-once = refl; clause-short = omega arith; literals-few = omega arith }
 
-within-literal : (variables : ℕ) (done : List (List ℕ)) (current : List ℕ) (l : ℕ) → Within variables done current
+within-literal : (variables : ℕ) (done : List (List ℕ)) (current : List ℕ) (l : ℕ) → WithinLimits variables done current
     → real (literal l) ≡ true
     → ltb variables (variableOf l) ≡ false → eqb (length current) maxClause ≡ false
     → member (variableOf l) (map variableOf current) ≡ false
-    → eqb (length (flat done) + length current) maxLiterals ≡ false → Within variables done (current ++ (l ∷ []))
+    → eqb (length (flat done) + length current) maxLiterals ≡ false → WithinLimits variables done (current ++ (l ∷ []))
 unfolding real all
 within-literal variables done current l w r small short new few = record {
   clauses-sound = w .clauses-sound;
@@ -100,7 +100,7 @@ within-literal variables done current l w r small short new few = record {
   literals-few = rw length-append (omega (arith, eqb-false (length (flat done) + length current) maxLiterals few));
 }
 
-clause-within : (variables : ℕ) (done : List (List ℕ)) (current : List ℕ) → Within variables done current → empty current ≡ false
+clause-within : (variables : ℕ) (done : List (List ℕ)) (current : List ℕ) → WithinLimits variables done current → empty current ≡ false
     → soundClause variables current ≡ true
 unfolding empty
 clause-within variables done [] w filled = absurd (true≢false filled)
@@ -108,8 +108,8 @@ clause-within variables done (l ∷ ls) w filled =
     clause-whole variables (l ∷ ls)
     (record { filled = omega arith; short = w .clause-short; within = w .literals-within; once = w .variables-once })
 
-within-close : (variables : ℕ) (done : List (List ℕ)) (current : List ℕ) → Within variables done current → empty current ≡ false
-    → Within variables (done ++ (current ∷ [])) []
+within-close : (variables : ℕ) (done : List (List ℕ)) (current : List ℕ) → WithinLimits variables done current → empty current ≡ false
+    → WithinLimits variables (done ++ (current ∷ [])) []
 unfolding all distinct flat
 within-close variables done current w filled = record {
   clauses-sound = all-both (soundClause variables) done (current ∷ []) (w .clauses-sound)
@@ -120,7 +120,7 @@ within-close variables done current w filled = record {
   literals-few = rw (flat-more, length-append) (omega arith);
 }
 
-sound-done : (variables : ℕ) (done : List (List ℕ)) (current : List ℕ) → Within variables done current → 1 ≤ variables
+sound-done : (variables : ℕ) (done : List (List ℕ)) (current : List ℕ) → WithinLimits variables done current → 1 ≤ variables
     → variables ≤ maxVariables → length done ≤ maxClauses
     → sound (record { variables = variables; clauses = done }) ≡ true
 sound-done variables done current w some few clauses =
@@ -133,7 +133,7 @@ ended true false made formula h = let z : _≡_ {A = ℕ} 0 1 = cc in absurd (om
 ended false counted made formula h = let z : _≡_ {A = ℕ} 0 1 = cc in absurd (omega arith)
 
 walk-sound : (variables clauses : ℕ) (tokens : List Token) → 1 ≤ variables → variables ≤ maxVariables → clauses ≤ maxClauses
-    → (done : List (List ℕ)) (current : List ℕ) (formula : Formula) → all real tokens ≡ true → Within variables done current
+    → (done : List (List ℕ)) (current : List ℕ) (formula : Formula) → all real tokens ≡ true → WithinLimits variables done current
     → walk variables clauses done current tokens ≡ accepted formula → sound formula ≡ true
 unfolding walk all real
 walk-sound variables clauses [] v v′ c done current formula r w h =
@@ -141,15 +141,15 @@ walk-sound variables clauses [] v v′ c done current formula r w h =
     rw (last .1) (sound-done variables done current w v v′ (omega (arith, eqb-true (length done) clauses (last .0))))
 walk-sound variables clauses (literal l ∷ tokens) v v′ c done current formula r w h =
     let r2 = and-parts (real (literal l)) (all real tokens) r in
-    let t5 = passed _ 5 _ formula h in
-    let t6 = passed _ 6 _ formula (t5 .1) in
-    let t7 = passed _ 7 _ formula (t6 .1) in
-    let t8 = passed (empty current && leb clauses (length done)) 8 _ formula (t7 .1) in
-    let t9 = passed _ 9 _ formula (t8 .1) in
+    let t5 = not-refused _ 5 _ formula h in
+    let t6 = not-refused _ 6 _ formula (t5 .1) in
+    let t7 = not-refused _ 7 _ formula (t6 .1) in
+    let t8 = not-refused (empty current && leb clauses (length done)) 8 _ formula (t7 .1) in
+    let t9 = not-refused _ 9 _ formula (t8 .1) in
     walk-sound variables clauses tokens v v′ c done (current ++ (l ∷ [])) formula (r2 .1)
     (within-literal variables done current l w (r2 .0) (t5 .0) (t6 .0) (t7 .0) (t9 .0)) (t9 .1)
 walk-sound variables clauses (close ∷ tokens) v v′ c done current formula r w h =
-    let t6 = passed (empty current) 6 _ formula h in
+    let t6 = not-refused (empty current) 6 _ formula h in
     walk-sound variables clauses tokens v v′ c (done ++ (current ∷ [])) [] formula r (within-close variables done current w (t6 .0))
     (t6 .1)
 walk-sound variables clauses (invalid ∷ tokens) v v′ c done current formula r w h = let z : _≡_ {A = ℕ} 0 1 = cc in absurd (omega arith)
@@ -171,7 +171,7 @@ under-sound : (head : Header) (words : List Piece) (formula : Formula) → walkU
 unfolding walkUnder
 under-sound malformed words formula h = let z : _≡_ {A = ℕ} 0 1 = cc in absurd (omega arith)
 under-sound (header variables clauses) words formula h =
-    let inside = passed (outside variables clauses) 3 (walk variables clauses [] [] (tokensOf words)) formula h in
+    let inside = not-refused (outside variables clauses) 3 (walk variables clauses [] [] (tokensOf words)) formula h in
     let limits = inside-limits variables clauses (inside .0) in
     walk-sound variables clauses (tokensOf words) (limits .0) (limits .1) (limits .2) [] [] formula (tokens-real words)
     (within-none variables) (inside .1)
@@ -184,7 +184,7 @@ lines-sound (line ∷ lines) formula h = under-sound (headerOf line) (bodyOf lin
 -- a text that is accepted has at most 60,000 bytes
 pub accepted-short : (text : List ℕ) (formula : Formula) → readText text ≡ accepted formula → ltb maxText (length text) ≡ false
 unfolding readText
-accepted-short text formula h = passed (ltb maxText (length text)) 1 _ formula h .0
+accepted-short text formula h = not-refused (ltb maxText (length text)) 1 _ formula h .0
 
 pub accepted-sound : (text : List ℕ) (formula : Formula) → readText text ≡ accepted formula → sound formula ≡ true
 accepted-sound text formula h = lines-sound (linesOf text) formula (sym (read-is-walk text (accepted-short text formula h)) ∙ h)

@@ -1,5 +1,5 @@
 -- The clauses of the text as the reader's loop meets them: faults of a literal, the walk, the numbers written.
-use Prim.Native.Nat.{ℕ, suc, _+_, _-_, _≤_, _<_}
+use Prim.Native.Nat.{ℕ, suc, _+_, _≤_, _<_}
 use mathlib.Core.Path.{_≡_, refl, ap, sym, _∙_}
 use mathlib.Core.Logic.{_⊎_, inl, inr}
 use mathlib.Core.Bool.{Bool, true, false, cond, _&&_, and-false}
@@ -11,7 +11,7 @@ use lib.ListN.{length, take, drop, set, length-set, length-append, length-drop}
 use lib.Seq.{drop-set-add, drop-set-lt, take-set-le, take-suc-set}
 use Rattle.base.specs.Lists.{flat, member}
 use Rattle.base.proofs.Lists.{length-more, flat-more, empty-test}
-use Rattle.book.specs.Formula.{variableOf, maxClause, maxLiterals}
+use Rattle.book.specs.Formula.{variableOf, maxClause, maxLiterals, maxBook, maxClauses}
 use Rattle.book.specs.Numbers.{starts}
 use Rattle.book.specs.Text.{Token, literal, close, invalid}
 use Rattle.book.specs.Reading.{Judged, refused, accepted}
@@ -135,8 +135,8 @@ starts-more from (clause ∷ done) current =
     ap (λ (xs : List ℕ). from ∷ xs) (starts-more (from + length clause) done current ∙ ap (λ (n : ℕ). starts (from + length clause) done ++ (n ∷ [])) long)
 
 -- the numbers after a store
-module _ (numbers : List ℕ) (clauses : ℕ) (done : List (List ℕ)) (current : List ℕ) (few : clauses ≤ 1500) (w : Written numbers clauses done current) where
-  pub written-literal : (total l : ℕ) → total ≡ length (flat done ++ current) → length done ≤ clauses → total < 6000
+module _ (numbers : List ℕ) (clauses : ℕ) (done : List (List ℕ)) (current : List ℕ) (few : clauses ≤ maxClauses) (w : Written numbers clauses done current) where
+  pub written-literal : (total l : ℕ) → total ≡ length (flat done ++ current) → length done ≤ clauses → total < maxLiterals
       → Written (set numbers (clauses + 4 + total) l) clauses done (current ++ (l ∷ []))
   written-literal total l e h small =
       let place : clauses + 4 + total ≡ 3 + (clauses + 1 + total) = omega arith in
@@ -173,7 +173,7 @@ module _ (numbers : List ℕ) (clauses : ℕ) (done : List (List ℕ)) (current 
             ∙ sym none;
       }
 
-pub written-none : (numbers : List ℕ) (clauses : ℕ) → length numbers ≡ 7504 → Written (set numbers 3 0) clauses [] []
+pub written-none : (numbers : List ℕ) (clauses : ℕ) → length numbers ≡ maxBook → Written (set numbers 3 0) clauses [] []
 unfolding starts flat
 written-none numbers clauses long =
     let room : 0 < length (drop 3 numbers) = rw (length-drop 3 numbers) (omega arith) in

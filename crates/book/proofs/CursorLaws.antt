@@ -174,7 +174,7 @@ module _ (text : List ℕ) (start end : ℕ) (h : start < length text) (w : blan
   behind-at =
       behind-word start (drop start text) ∙ rw (← e, drop-drop (length (until blank (drop start text))) start text, ← e)
 
-module _ (text : List ℕ) (at start : ℕ) (g : GapEnd text at start) where
+module _ {text : List ℕ} {at start : ℕ} (g : GapEnd text at start) where
   pub no-word : length text ≤ start → tokensHere text at ≡ []
   unfolding tokensOf
   no-word h = ap tokensOf (g .same-words ∙ ap (wordsHere start) (drop-of-length-le text h) ∙ here-none start)
@@ -200,7 +200,7 @@ pub record Space (text : List ℕ) (at i : ℕ) : Type 0 where
 pub space-none : (text : List ℕ) (at : ℕ) → at ≤ length text → Space text at at
 space-none text at h = record { ahead = omega arith; within = h; same-line = refl; same-behind = refl }
 
-module _ (text : List ℕ) (at i : ℕ) (s : Space text at i) where
+module _ {text : List ℕ} {at i : ℕ} (s : Space text at i) where
   pub space-blank : i < length text → (getD text i 0 ≡ 10 → ⊥) → blank (getD text i 0) ≡ true → Space text at (i + 1)
   unfolding lineEnd
   space-blank h n e =
@@ -224,7 +224,7 @@ module _ (text : List ℕ) (at i : ℕ) (s : Space text at i) where
   pub space-ends-last : length text ≤ i → SpaceEnd text at i
   space-ends-last e = space-ends (λ h b. absurd (omega arith))
 
-module _ (text : List ℕ) (at from : ℕ) (s : SpaceEnd text at from) where
+module _ {text : List ℕ} {at from : ℕ} (s : SpaceEnd text at from) where
   -- no word begins at `from`: the line ends there
   ends-here : (next : ℕ) → next ≡ from + length (until blank (drop from text)) → next ≡ from → wordsLine from (drop from text) ≡ []
   unfolding lineEnd

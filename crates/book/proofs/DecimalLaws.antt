@@ -8,13 +8,14 @@ use native.Mathlib.Numerals.{add-one}
 use native.Mathlib.Omega.{arith}
 use borrow.Author.Tests.{le-leb, lt-leb, leb-true, eq-eqb, ne-eqb}
 use lib.Dec.{leb, eqb}
-use lib.ListN.{length, getD, drop, drop-of-length-le}
-use lib.Seq.{drop-cons}
+use lib.ListN.{length, getD, take, drop, drop-of-length-le, length-drop}
+use lib.Seq.{drop-cons, take-all}
 use Rattle.base.specs.Lists.{all, begins}
 use Rattle.base.proofs.Bools.{and-parts}
 use Rattle.base.proofs.Lists.{begins-at}
 use Rattle.book.specs.Text.{decimal, isDigit, unsigned, literal, close, invalid, negativeToken, unsignedToken, tokenOf}
 use Rattle.book.specs.Answer.{digitsOf}
+use Rattle.book.specs.declared.bytes.Digits.{Digits}
 use Rattle.book.specs.declared.bytes.Digits.the-variants.{Value, Invalid}
 
 pub digit-true : (b : ℕ) → 48 ≤ b → b ≤ 57 → isDigit b ≡ true
@@ -36,19 +37,19 @@ digit-bounds b h =
     (leb-true 48 b (parts .0), leb-true b 57 (parts .1))
 
 -- what the loop knows at byte i: the rest of the word decides, from the value so far on
-pub record Reading (word : List ℕ) (value i : ℕ) : Type 0 where
+pub record DigitsSoFar (word : List ℕ) (value i : ℕ) : Type 0 where
   pub within : i ≤ length word
   pub same-value : decimal value (drop i word) ≡ decimal 0 word
   pub same-digits : all isDigit (drop i word) ≡ all isDigit word
   pub small : value < 10 ^ i
 
-pub reading-start : (word : List ℕ) → Reading word 0 0
-reading-start word = record { within = omega arith; same-value = refl; same-digits = refl; small = omega arith }
+pub digits-start : (word : List ℕ) → DigitsSoFar word 0 0
+digits-start word = record { within = omega arith; same-value = refl; same-digits = refl; small = omega arith }
 
-pub reading-step : (word : List ℕ) (value i : ℕ) → Reading word value i → i < length word → 48 ≤ getD word i 0 → getD word i 0 ≤ 57
-    → Reading word (10 * value + (getD word i 0 - 48)) (i + 1)
+pub digits-step : {word : List ℕ} {value i : ℕ} → DigitsSoFar word value i → i < length word → 48 ≤ getD word i 0 → getD word i 0 ≤ 57
+    → DigitsSoFar word (10 * value + (getD word i 0 - 48)) (i + 1)
 unfolding decimal all
-reading-step word value i r h low high =
+digits-step {word} {value} {i} r h low high =
     record {
       within = omega arith;
       same-value = rw add-one (sym (ap (decimal value) (drop-cons word i 0 h)) ∙ r .same-value);
@@ -57,8 +58,8 @@ reading-step word value i r h low high =
     }
 
 -- with fewer than 9 digits before it, one more digit fits 32 bits
-pub value-small : (word : List ℕ) (value i : ℕ) → Reading word value i → i < 9 → value < 100000000
-value-small word value i r h =
+pub value-small : {word : List ℕ} {value i : ℕ} → DigitsSoFar word value i → i < 9 → value < 100000000
+value-small {word} {value} {i} r h =
     let p : 10 ^ i ≤ 10 ^ 8 = pow-le-pow-right {n = 10} (omega arith) {i = i} {j = 8} (omega arith) in
     omega (arith, r .small)
 
@@ -66,28 +67,32 @@ unsigned-false : (word : List ℕ) → all isDigit word ≡ false → unsigned w
 unfolding unsigned
 unsigned-false word e = rw e (and-false (leb 1 (length word) && leb (length word) 9))
 
-pub not-a-digit : (word : List ℕ) (value i : ℕ) → Reading word value i → i < length word → isDigit (getD word i 0) ≡ false
+pub not-a-digit : {word : List ℕ} {value i : ℕ} → DigitsSoFar word value i → i < length word → isDigit (getD word i 0) ≡ false
     → Invalid ≡ digitsOf word
 unfolding all
-not-a-digit word value i r h e =
+not-a-digit {word} {value} {i} r h e =
     let bad : all isDigit word ≡ false = sym (r .same-digits) ∙ ap (all isDigit) (drop-cons word i 0 h) ∙ rw e in
     rw (unsigned-false word bad)
 
-pub all-digits : (word : List ℕ) (value i : ℕ) → Reading word value i → length word ≤ i → 1 ≤ length word → length word ≤ 9
+pub all-digits : {word : List ℕ} {value i : ℕ} → DigitsSoFar word value i → length word ≤ i → 1 ≤ length word → length word ≤ 9
     → Value value ≡ digitsOf word
 unfolding all unsigned decimal
-all-digits word value i r h low high =
+all-digits {word} {value} {i} r h low high =
     let good : all isDigit word ≡ true = sym (r .same-digits) ∙ ap (all isDigit) (drop-of-length-le word h) in
     let is : decimal 0 word ≡ value = sym (r .same-value) ∙ ap (decimal value) (drop-of-length-le word h) in
     rw (le-leb 1 (length word) low, le-leb (length word) 9 high, good, is)
 
-pub too-short : (word : List ℕ) → length word ≡ 0 → Invalid ≡ digitsOf word
+pub word-too-short : (word : List ℕ) → length word ≡ 0 → Invalid ≡ digitsOf word
 unfolding unsigned
-too-short word e = rw (lt-leb 1 (length word) (omega arith))
+word-too-short word e = rw (lt-leb 1 (length word) (omega arith))
 
-pub too-long : (word : List ℕ) → 9 < length word → Invalid ≡ digitsOf word
+pub word-too-long : (word : List ℕ) → 9 < length word → Invalid ≡ digitsOf word
 unfolding unsigned
-too-long word h = rw (le-leb 1 (length word) (omega arith), lt-leb (length word) 9 h)
+word-too-long word h = rw (le-leb 1 (length word) (omega arith), lt-leb (length word) 9 h)
+
+-- the digits behind the first n bytes of a word
+pub digits-behind : (n : ℕ) (word : List ℕ) (d : Digits) → d ≡ digitsOf (take (length word - n) (drop n word)) → d ≡ digitsOf (drop n word)
+digits-behind n word d e = rw (take-all (length word - n) (drop n word) (rw (length-drop n word) (omega arith))) at e
 
 -- decimal digits write less than a 1 with as many zeros
 decimal-below : (digits : List ℕ) (n : ℕ) → all isDigit digits ≡ true → decimal n digits < (n + 1) * 10 ^ length digits

@@ -28,14 +28,14 @@ pub record Printed (places n : ℕ) (ds : List ℕ) : Type 0 where
   pub all-digits : all isDigit ds ≡ true
   pub number-back : decimal 0 ds ≡ n
 
-one-digit : (places n : ℕ) → n < 10 → Printed (suc places) n ((48 + n) ∷ [])
+printed-digit : (places n : ℕ) → n < 10 → Printed (suc places) n ((48 + n) ∷ [])
 unfolding all decimal
-one-digit places n h =
+printed-digit places n h =
     record { some-digit = omega arith; few-digits = omega arith; all-digits = rw (digit-true (48 + n) (omega arith) (omega arith)); number-back = omega arith }
 
-more-digits : (places n : ℕ) (ds : List ℕ) → Printed places (n / 10) ds → Printed (suc places) n (ds ++ ((48 + n % 10) ∷ []))
+printed-digits : (places n : ℕ) (ds : List ℕ) → Printed places (n / 10) ds → Printed (suc places) n (ds ++ ((48 + n % 10) ∷ []))
 unfolding all
-more-digits places n ds p = record {
+printed-digits places n ds p = record {
   some-digit = rw length-append (omega arith);
   few-digits = rw length-append (omega arith);
   all-digits = all-both isDigit ds ((48 + n % 10) ∷ []) (p .all-digits) (rw (digit-true (48 + n % 10) (omega arith) (omega arith)));
@@ -44,13 +44,13 @@ more-digits places n ds p = record {
 
 printed : (places n : ℕ) → n < 10 ^ suc places → Printed (suc places) n (digits (suc places) n)
 unfolding digits
-printed zero n h = rw (lt-ltb n 10 h) (one-digit 0 n h)
+printed zero n h = rw (lt-ltb n 10 h) (printed-digit 0 n h)
 printed (suc places) n h = go (ltb n 10) refl (printed places (n / 10))
   where
     go : (b : Bool) → ltb n 10 ≡ b → (n / 10 < 10 ^ suc places → Printed (suc places) (n / 10) (digits (suc places) (n / 10)))
         → Printed (suc (suc places)) n (cond b ((48 + n) ∷ []) (digits (suc places) (n / 10) ++ ((48 + n % 10) ∷ [])))
-    go true e ih = one-digit (suc places) n (ltb-true n 10 e)
-    go false e ih = more-digits (suc places) n (digits (suc places) (n / 10)) (ih (omega (arith, pow-succ' 10 (suc places))))
+    go true e ih = printed-digit (suc places) n (ltb-true n 10 e)
+    go false e ih = printed-digits (suc places) n (digits (suc places) (n / 10)) (ih (omega (arith, pow-succ' 10 (suc places))))
 
 -- a number below 1,000,000,000
 pub number-printed : (n : ℕ) → n < 1000000000 → Printed 9 n (printNumber n)

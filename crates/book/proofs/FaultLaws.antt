@@ -71,12 +71,12 @@ pub record Least (faults : List Fault) (f : Fault) : Type 0 where
   pub before-all : all (before f) faults ≡ true
 
 -- there is none exactly where there is no fault
-Found : List Fault → Option Fault → Type 0
-Found faults none = faults ≡ []
-Found faults (some f) = Least faults f
+FoundLeast : List Fault → Option Fault → Type 0
+FoundLeast faults none = faults ≡ []
+FoundLeast faults (some f) = Least faults f
 
-least-found : (faults : List Fault) → Found faults (least faults)
-unfolding least Found earlier all
+least-found : (faults : List Fault) → FoundLeast faults (least faults)
+unfolding least FoundLeast earlier all
 least-found [] = refl
 least-found (a ∷ faults) = go (least faults) (least-found faults)
   where
@@ -87,19 +87,19 @@ least-found (a ∷ faults) = go (least faults) (least-found faults)
     }
     pick m l false e = record { one-of-them = List·Memᴰ·tail (l .one-of-them); before-all = rw (before-other a m e) (l .before-all) }
 
-    go : (found : Option Fault) → Found faults found → Found (a ∷ faults) (earlier a found)
+    go : (found : Option Fault) → FoundLeast faults found → FoundLeast (a ∷ faults) (earlier a found)
     go none e = record { one-of-them = List·Memᴰ·head refl; before-all = rw (e, before-same a) }
     go (some m) l = pick m l (before a m) refl
 
 -- A text of at most 60,000 bytes is refused by the number of its least fault.
 pub answer-is-least : (text : List ℕ) (n : ℕ) → length text ≤ maxText → readText text ≡ refused n
     → (f : Fault) × Least (faultsOf (length text) (linesOf text)) f × (f .number ≡ n)
-unfolding readText judged Found
+unfolding readText judged FoundLeast
 answer-is-least text n short h =
     go (least (faultsOf (length text) (linesOf text))) (least-found (faultsOf (length text) (linesOf text)))
     (rw (le-ltb maxText (length text) short) at h)
   where
-    go : (found : Option Fault) → Found (faultsOf (length text) (linesOf text)) found
+    go : (found : Option Fault) → FoundLeast (faultsOf (length text) (linesOf text)) found
         → judged found (formulaIn (linesOf text)) ≡ refused n
         → (f : Fault) × Least (faultsOf (length text) (linesOf text)) f × (f .number ≡ n)
     go none e h = let z : _≡_ {A = ℕ} 0 1 = cc in absurd (omega arith)
@@ -108,12 +108,12 @@ answer-is-least text n short h =
 -- A text that is accepted has no fault, and is at most 60,000 bytes long.
 pub accepted-no-fault : (text : List ℕ) (formula : Formula) → readText text ≡ accepted formula
     → faultsOf (length text) (linesOf text) ≡ []
-unfolding readText judged Found
+unfolding readText judged FoundLeast
 accepted-no-fault text formula h =
     go (least (faultsOf (length text) (linesOf text))) (least-found (faultsOf (length text) (linesOf text)))
     (rw (accepted-short text formula h) at h)
   where
-    go : (found : Option Fault) → Found (faultsOf (length text) (linesOf text)) found
+    go : (found : Option Fault) → FoundLeast (faultsOf (length text) (linesOf text)) found
         → judged found (formulaIn (linesOf text)) ≡ accepted formula
         → faultsOf (length text) (linesOf text) ≡ []
     go none e h = e

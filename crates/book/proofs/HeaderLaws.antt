@@ -40,42 +40,42 @@ abbrev pub isCnf : List ℕ → Bool
 isCnf word = same word (99 ∷ 110 ∷ 102 ∷ [])
 
 -- the header is malformed as soon as a word of it fails, or a fifth word follows
-module _ (text : List ℕ) (at : ℕ) where
+module _ {text : List ℕ} {at : ℕ} where
   pub first-fails : WordFails isP text at → headed (lineWords text at) ≡ false
   unfolding headed
   first-fails (none e) = rw e
   first-fails (other word rest e f) = rw (e, f, and-false)
 
-  module _ (a : ℕ) (p : WordPasses isP text at a) where
+  module _ {a : ℕ} (p : WordPasses isP text at a) where
     pub second-fails : WordFails isCnf text a → headed (lineWords text at) ≡ false
     unfolding headed
     second-fails (none e) = rw (p .words, e)
     second-fails (other word rest e f) = rw (p .words, e, f, and-false)
 
-    module _ (b : ℕ) (q : WordPasses isCnf text a b) where
+    module _ {b : ℕ} (q : WordPasses isCnf text a b) where
       pub third-fails : WordFails unsigned text b → headed (lineWords text at) ≡ false
       unfolding headed
       third-fails (none e) = rw (p .words, q .words, e)
       third-fails (other word rest e f) = rw (p .words, q .words, e, f, and-false)
 
-      module _ (c : ℕ) (r : WordPasses unsigned text b c) where
+      module _ {c : ℕ} (r : WordPasses unsigned text b c) where
         pub fourth-fails : WordFails unsigned text c → headed (lineWords text at) ≡ false
         unfolding headed
         fourth-fails (none e) = rw (p .words, q .words, r .words, e)
         fourth-fails (other word rest e f) = rw (p .words, q .words, r .words, e, f, and-false)
 
-        module _ (d : ℕ) (s : WordPasses unsigned text c d) where
-          pub fifth-word : (from next : ℕ) → NextInLine text d from next → headed (lineWords text at) ≡ false
+        module _ {d : ℕ} (s : WordPasses unsigned text c d) where
+          pub fifth-word : {from next : ℕ} → NextInLine text d from next → headed (lineWords text at) ≡ false
           unfolding headed
-          fifth-word from next n =
+          fifth-word {from} {next} n =
               rw (p .words, q .words, r .words, s .words, n .words, ne-eqb (suc (suc (suc (suc (suc (length (lineWords text next))))))) 4 (λ e. omega arith))
 
-          pub well-headed : (next : ℕ) → LineEnds text d next → headerIn (lineWords text at) ≡ header (decimal 0 (r .word)) (decimal 0 (s .word))
+          pub well-headed : {next : ℕ} → LineEnds text d next → headerIn (lineWords text at) ≡ header (decimal 0 (r .word)) (decimal 0 (s .word))
           unfolding headed headerIn
-          well-headed next l = rw (p .words, q .words, r .words, s .words, l .words, p .passes, q .passes, r .passes, s .passes)
+          well-headed l = rw (p .words, q .words, r .words, s .words, l .words, p .passes, q .passes, r .passes, s .passes)
 
-          pub tokens-behind : (next : ℕ) → LineEnds text d next → tokensOf (wordsBehind at (drop at text)) ≡ tokensHere text next
-          tokens-behind next l =
+          pub tokens-behind : {next : ℕ} → LineEnds text d next → tokensOf (wordsBehind at (drop at text)) ≡ tokensHere text next
+          tokens-behind l =
               ap tokensOf (p .same-behind ∙ q .same-behind ∙ r .same-behind ∙ s .same-behind) ∙ sym (l .tokens)
 
 module _ (text : List ℕ) (at : ℕ) (unskipped : begins 99 (drop at text) ≡ false) where

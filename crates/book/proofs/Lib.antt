@@ -2,12 +2,12 @@
 pub mod Accepted
 pub mod BodyLaws
 pub mod ClauseLaws
+pub mod ClausesSoFar
 pub mod CursorLaws
 pub mod DecimalLaws
 pub mod Digits
 pub mod FaultLaws
 pub mod FormLaws
-pub mod GoingLaws
 pub mod HeaderLaws
 pub mod LeastFault
 pub mod LineLaws
@@ -16,6 +16,7 @@ pub mod NumberLaws
 pub mod ParseLaws
 pub mod PartLaws
 pub mod PrintRead
+pub mod ReadIsWalk
 pub mod ReadLaws
 pub mod SoundLaws
 pub mod WalkAccepts

@@ -10,7 +10,7 @@ use lib.ListN.{length, drop}
 use borrow.Author.Tests.{eqb-true, ne-eqb}
 use Rattle.base.specs.Lists.{keep, flat, empty, begins, until}
 use Rattle.base.proofs.Until.{until-more}
-use Rattle.book.specs.Text.{Piece, blank, lineEnd, extend, split, kept, filled, wordsOf, linesOf, headerOf, headerIn, malformed}
+use Rattle.book.specs.Text.{Piece, blank, lineEnd, extend, split, notSkipped, filled, wordsOf, linesOf, headerOf, headerIn, malformed}
 use Rattle.book.specs.Faults.{bodyOf}
 use Rattle.book.specs.Reading.{refused}
 use Rattle.book.specs.Inner.Walk.{tokensOf, walkUnder, walkLines, walkStart}
@@ -136,7 +136,7 @@ behind-word at (b ∷ t) = go (blank b) refl (behind-word (suc at) t)
         ∙ ap (λ m. wordsBehind m (drop (length (until blank t)) t)) (omega arith))
 
 pub start-none : (at : ℕ) → wordsStart at [] ≡ []
-unfolding wordsStart bodyOf split keep kept begins wordsOf filled empty flat
+unfolding wordsStart bodyOf split keep notSkipped begins wordsOf filled empty flat
 start-none at = refl
 
 -- what the lines behind say is what the lines from the next one on say, if nothing is said by an empty last line
@@ -154,7 +154,7 @@ next-line f last at (b ∷ t) = go (lineEnd b) (next-line f last (suc at) t)
 
 pub behind-next : (at : ℕ) (t : List ℕ) → wordsBehind at t ≡ wordsStart (at + lineLength t) (drop (lineLength t) t)
 unfolding wordsBehind wordsStart bodyOf split flat keep
-behind-next = next-line (λ l. bodyOf (keep kept l)) (λ p. sym (start-none p))
+behind-next = next-line (λ l. bodyOf (keep notSkipped l)) (λ p. sym (start-none p))
 
 -- both
 pub here-none : (at : ℕ) → wordsHere at [] ≡ []
@@ -196,31 +196,31 @@ not-comment : _≡_ {A = ℕ} 99 10 → ⊥
 not-comment h = omega arith
 
 pub start-plain : (at : ℕ) (t : List ℕ) → begins 99 t ≡ false → wordsStart at t ≡ wordsHere at t
-unfolding wordsStart wordsHere wordsLine wordsBehind keep kept bodyOf flat
+unfolding wordsStart wordsHere wordsLine wordsBehind keep notSkipped bodyOf flat
 start-plain at t h = rw (split-first, line-begins 99 t not-comment, h)
 
 pub start-behind : (at : ℕ) (t : List ℕ) → begins 99 t ≡ true → wordsStart at t ≡ wordsBehind at t
-unfolding wordsStart wordsBehind keep kept
+unfolding wordsStart wordsBehind keep notSkipped
 start-behind at t h = rw (split-first, line-begins 99 t not-comment, h)
 
 pub start-skipped : (at : ℕ) (t : List ℕ) → begins 99 t ≡ true → wordsStart at t ≡ wordsStart (at + lineLength t) (drop (lineLength t) t)
 start-skipped at t h = start-behind at t h ∙ behind-next at t
 
 pub walk-none : (at : ℕ) → walkStart at [] ≡ refused 2
-unfolding walkStart walkLines walkUnder headerOf keep kept split begins
+unfolding walkStart walkLines walkUnder headerOf keep notSkipped split begins
 walk-none at = refl
 
 -- the first line is the header; behind the place where its words end are the words of the clauses
 pub walk-behind : (at : ℕ) (t : List ℕ) → begins 99 t ≡ false
     → walkStart at t ≡ walkUnder (headerOf (record { place = at; bytes = until lineEnd t })) (tokensOf (wordsBehind at t))
-unfolding walkStart walkLines keep kept wordsBehind
+unfolding walkStart walkLines keep notSkipped wordsBehind
 walk-behind at t h = rw (split-first, line-begins 99 t not-comment, h)
 
 pub walk-skipped : (at : ℕ) (t : List ℕ) → begins 99 t ≡ true → walkStart at t ≡ walkStart (at + lineLength t) (drop (lineLength t) t)
-unfolding walkStart keep kept split walkLines
+unfolding walkStart keep notSkipped split walkLines
 walk-skipped at t h =
     rw (split-first lineEnd at t, line-begins 99 t not-comment, h)
-    (next-line (λ l. walkLines (keep kept l)) (λ p. sym (walk-none p)) at t)
+    (next-line (λ l. walkLines (keep notSkipped l)) (λ p. sym (walk-none p)) at t)
 
 pub walk-lines : (text : List ℕ) → walkLines (linesOf text) ≡ walkStart 0 text
 unfolding walkStart linesOf

@@ -19,7 +19,7 @@ use Rattle.book.specs.Printer.{printNumber, printLiteral, printClause, p
 use Rattle.book.specs.Inner.Walk.{tokensOf, walkUnder, walkStart}
 use Rattle.book.specs.Inner.Words.{wordsLine, wordsBehind, wordsHere, wordsStart}
 use Rattle.book.proofs.LineLaws.{line-word, line-blank, line-end, word-not-end, behind-byte, behind-end, start-plain, start-none, walk-behind, walk-lines, header-line}
-use Rattle.book.proofs.LeastFault.{read-is-walk}
+use Rattle.book.proofs.ReadIsWalk.{read-is-walk}
 use Rattle.book.proofs.SoundLaws.{literal-parts, clause-parts, FormulaParts, formula-parts}
 use Rattle.book.proofs.WalkAccepts.{clauseTokens, tokensFor, clauses-walk}
 use Rattle.book.proofs.ParseLaws.{within-limits}
@@ -27,7 +27,7 @@ use Rattle.book.proofs.DecimalLaws.{token-plain}
 use Rattle.book.proofs.Digits.{number-printed, printed-unsigned, digit-not-blank, digits-begin}
 
 -- a word: bytes that are no blanks, and at least one
-record Word (w : List ℕ) : Type 0 where
+record PlainWord (w : List ℕ) : Type 0 where
   some-byte : 1 ≤ length w
   no-blank : all (λ (b : ℕ). not (blank b)) w ≡ true
 
@@ -57,7 +57,7 @@ behind-word-byte (x ∷ w) t tokens h behind at =
     rw (behind-byte at x (w ++ t) (word-not-end x (not-true (blank x) (parts .0))))
     (behind-word-byte w t tokens (parts .1) behind (suc at))
 
-lined-word : (w : List ℕ) (b : ℕ) (t : List ℕ) (words : List (List ℕ)) (tokens : List Token) → Word w → blank b ≡ true
+lined-word : (w : List ℕ) (b : ℕ) (t : List ℕ) (words : List (List ℕ)) (tokens : List Token) → PlainWord w → blank b ≡ true
     → Lined (b ∷ t) words tokens
     → Lined (w ++ (b ∷ t)) (w ∷ words) tokens
 unfolding all
@@ -91,7 +91,7 @@ starts-plain t words tokens h lined at =
     rw (start-plain at t h, map-append, lined .tokens-behind at, ← lined .line-words at, map-map)
 
 -- printed numbers and literals
-number-word : (n : ℕ) → n < 1000000000 → Word (printNumber n)
+number-word : (n : ℕ) → n < 1000000000 → PlainWord (printNumber n)
 number-word n h =
     let p = number-printed n h in
     record {
@@ -99,15 +99,15 @@ number-word n h =
       no-blank = all-imply isDigit (λ b. not (blank b)) digit-not-blank (printNumber n) (p .all-digits);
     }
 
-signed-word : (w : List ℕ) → Word w → Word (45 ∷ w)
+signed-word : (w : List ℕ) → PlainWord w → PlainWord (45 ∷ w)
 unfolding all blank
 signed-word w word = record { some-byte = omega arith; no-blank = word .no-blank }
 
-literal-word : (l : ℕ) → l / 2 < 1000000000 → Word (printLiteral l)
+literal-word : (l : ℕ) → l / 2 < 1000000000 → PlainWord (printLiteral l)
 unfolding printLiteral
 literal-word l h = go (eqb (l % 2) 1) (number-word (l / 2) h)
   where
-    go : (b : Bool) → Word (printNumber (l / 2)) → Word (cond b (45 ∷ printNumber (l / 2)) (printNumber (l / 2)))
+    go : (b : Bool) → PlainWord (printNumber (l / 2)) → PlainWord (cond b (45 ∷ printNumber (l / 2)) (printNumber (l / 2)))
     go true word = signed-word (printNumber (l / 2)) word
     go false word = word
 
@@ -161,7 +161,7 @@ clauseWords : List ℕ → List (List ℕ)
 clauseWords [] = (48 ∷ []) ∷ []
 clauseWords (l ∷ ls) = printLiteral l ∷ clauseWords ls
 
-zero-word : Word (48 ∷ [])
+zero-word : PlainWord (48 ∷ [])
 unfolding all blank
 zero-word = record { some-byte = omega arith; no-blank = refl }
 
@@ -209,11 +209,11 @@ module _ (variables : ℕ) (v : variables ≤ maxVariables) where
 headerWords : ℕ → ℕ → List (List ℕ)
 headerWords variables clauses = (112 ∷ []) ∷ (99 ∷ 110 ∷ 102 ∷ []) ∷ printNumber variables ∷ printNumber clauses ∷ []
 
-cnf-word : Word (99 ∷ 110 ∷ 102 ∷ [])
+cnf-word : PlainWord (99 ∷ 110 ∷ 102 ∷ [])
 unfolding all blank
 cnf-word = record { some-byte = omega arith; no-blank = refl }
 
-p-word : Word (112 ∷ [])
+p-word : PlainWord (112 ∷ [])
 unfolding all blank
 p-word = record { some-byte = omega arith; no-blank = refl }
 

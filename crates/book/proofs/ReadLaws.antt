@@ -9,27 +9,27 @@ use Rattle.book.specs.Formula.{Formula, literals}
 use Rattle.book.specs.Numbers.{numbersOf}
 use Rattle.book.specs.Text.{linesOf}
 use Rattle.book.specs.Reading.{Judged, refused, accepted, readText, maxText}
-use Rattle.book.specs.Answer.{answerTo, numbersAfter}
+use Rattle.book.specs.Answer.{readAnswer, numbersAfter}
 use Rattle.book.specs.Inner.Walk.{walkLines}
 use Rattle.book.specs.Inner.Bodies.{Read}
 use Rattle.book.specs.declared.Reading.{Reading}
 use Rattle.book.specs.declared.Reading.the-variants.{Book, Refused}
-use Rattle.book.proofs.LeastFault.{read-is-walk}
+use Rattle.book.proofs.ReadIsWalk.{read-is-walk}
 use Rattle.book.proofs.NumberLaws.{length-numbers}
 
 -- what is promised of an answer and of the lent numbers
-abbrev pub Answered : Judged → List ℕ → Reading → List ℕ → Type 0
-Answered judged buffer answer after = (answer ≡ answerTo judged (length buffer)) × (after ≡ numbersAfter judged buffer)
+abbrev pub ReadAnswered : Judged → List ℕ → Reading → List ℕ → Type 0
+ReadAnswered judged buffer answer after = (answer ≡ readAnswer judged (length buffer)) × (after ≡ numbersAfter judged buffer)
 
-pub answer-refused : (judged : Judged) (buffer : List ℕ) (number : ℕ) → judged ≡ refused number → Answered judged buffer (Refused number) buffer
+pub answer-refused : (judged : Judged) (buffer : List ℕ) (number : ℕ) → judged ≡ refused number → ReadAnswered judged buffer (Refused number) buffer
 answer-refused judged buffer number e = rw e (refl, refl)
 
 module _ (judged : Judged) (formula : Formula) (is : judged ≡ accepted formula) (buffer : List ℕ) where
-  pub answer-short : length buffer < length (numbersOf formula) → Answered judged buffer (Refused 10) buffer
+  pub answer-short : length buffer < length (numbersOf formula) → ReadAnswered judged buffer (Refused 10) buffer
   answer-short h = rw (is, lt-ltb (length buffer) (length (numbersOf formula)) h) (refl, refl)
 
   pub answer-book : length (numbersOf formula) ≤ length buffer
-      → Answered judged buffer
+      → ReadAnswered judged buffer
       (Book (formula .variables) (length (formula .clauses)) (length (literals formula)))
       (numbersOf formula ++ drop (length (numbersOf formula)) buffer)
   answer-book h = rw (is, le-ltb (length buffer) (length (numbersOf formula)) h) (refl, refl)
@@ -38,18 +38,18 @@ module _ (judged : Judged) (formula : Formula) (is : judged ≡ accepted formula
 pub read-walked : (text : List ℕ) (judged : Judged) → length text ≤ maxText → walkLines (linesOf text) ≡ judged → readText text ≡ judged
 read-walked text judged h e = read-is-walk text (le-ltb maxText (length text) h) ∙ e
 
-module _ (text numbers : List ℕ) (variables clauses total : ℕ) (r : Read text numbers variables clauses total) (short : length text ≤ maxText) (buffer : List ℕ) where
+module _ {text numbers : List ℕ} {variables clauses total : ℕ} (r : Read text numbers variables clauses total) (short : length text ≤ maxText) (buffer : List ℕ) where
   pub length-read : length (numbersOf (r .formula)) ≡ clauses + total + 4
   length-read = length-numbers (r .formula) ∙ rw (r .same-clauses, r .same-literals)
 
   is-read : readText text ≡ accepted (r .formula)
   is-read = read-walked text (accepted (r .formula)) short (r .is-accepted)
 
-  pub read-short : length buffer < clauses + total + 4 → Answered (readText text) buffer (Refused 10) buffer
+  pub read-short : length buffer < clauses + total + 4 → ReadAnswered (readText text) buffer (Refused 10) buffer
   read-short h = answer-short (readText text) (r .formula) is-read buffer (omega (arith, length-read))
 
   pub read-book : clauses + total + 4 ≤ length buffer
-      → Answered (readText text) buffer (Book variables clauses total) (take (clauses + total + 4) numbers ++ drop (clauses + total + 4) buffer)
+      → ReadAnswered (readText text) buffer (Book variables clauses total) (take (clauses + total + 4) numbers ++ drop (clauses + total + 4) buffer)
   read-book h =
       rw (r .front, ← length-read, ← (r .same-variables), ← (r .same-clauses), ← (r .same-literals))
       (answer-book (readText text) (r .formula) is-read buffer (omega (arith, length-read)))

@@ -9,7 +9,7 @@ use lib.Dec.{leb, eqb}
 use lib.ListN.{length, take}
 use Rattle.base.specs.Lists.{all, flat}
 use Rattle.base.proofs.Bools.{and-five, and-last, refuted}
-use Rattle.book.specs.Formula.{soundClause, sound, maxClauses, maxLiterals}
+use Rattle.book.specs.Formula.{soundClause, sound, maxClauses, maxLiterals, maxVariables}
 use Rattle.book.specs.Numbers.{variablesOf, clausesOf, literalsOf, startOf, clauseAt, clausesFrom, formulaOf, numbersOf, rising, wellFormed}
 use Rattle.book.specs.Inner.Form.{Parted}
 use Rattle.book.proofs.SoundLaws.{formula-parts, clauses-decide-sound, clause-of-sound}
@@ -18,9 +18,9 @@ use Rattle.book.proofs.PartLaws.{length-clauses, clause-of-formula, len
 -- V, C and L within their limits
 pub record Limited (numbers : List ℕ) : Type 0 where
   pub some-variables : 1 ≤ variablesOf numbers
-  pub variables : variablesOf numbers ≤ 500
-  pub clauses : clausesOf numbers ≤ 1500
-  pub literals : literalsOf numbers ≤ 6000
+  pub variables : variablesOf numbers ≤ maxVariables
+  pub clauses : clausesOf numbers ≤ maxClauses
+  pub literals : literalsOf numbers ≤ maxLiterals
 
 module _ (numbers : List ℕ) where
   -- of parted numbers within the limits the clauses decide

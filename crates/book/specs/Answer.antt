@@ -18,9 +18,9 @@ abbrev pub digitsOf : List ℕ → Digits
 digitsOf word = cond (unsigned word) (Value (decimal 0 word)) Invalid
 
 -- A text that is accepted otherwise is refused by 10 where the lent numbers are too few; else the answer is V, C and L.
-abbrev pub answerTo : Judged → ℕ → Reading
-answerTo (refused number) room = Refused number
-answerTo (accepted formula) room =
+abbrev pub readAnswer : Judged → ℕ → Reading
+readAnswer (refused number) room = Refused number
+readAnswer (accepted formula) room =
     cond (ltb room (length (numbersOf formula)))
     (Refused 10)
     (Book (formula .variables) (length (formula .clauses)) (length (literals formula)))

@@ -37,6 +37,10 @@ maxLiterals = 6000
 abbrev pub maxClause : ℕ
 maxClause = 255
 
+-- the numbers of the largest book: C + L + 4
+abbrev pub maxBook : ℕ
+maxBook = maxClauses + maxLiterals + 4
+
 -- a literal of one of V variables
 unfoldable pub literalWithin : ℕ → ℕ → Bool
 literalWithin variables literal = leb 2 literal && leb literal (2 * variables + 1)

@@ -33,11 +33,11 @@ split separator place (byte ∷ bytes) =
     (extend place byte (split separator (suc place) bytes))
 
 -- A line whose first byte is `c` is skipped everywhere.
-unfoldable pub kept : Piece → Bool
-kept line = not (begins 99 (line .bytes))
+unfoldable pub notSkipped : Piece → Bool
+notSkipped line = not (begins 99 (line .bytes))
 
 unfoldable pub linesOf : List ℕ → List Piece
-linesOf text = keep kept (split lineEnd 0 text)
+linesOf text = keep notSkipped (split lineEnd 0 text)
 
 -- the words of a line: what stands between blanks
 unfoldable pub filled : Piece → Bool

@@ -2,13 +2,17 @@
 ghost use Prim.Native.Nat.{_+_, _≤_, _<_};
 ghost use Rattle.base.specs.Lists.{all};
 ghost use Rattle.book.specs.Inner.Form.{Parted};
-ghost use Rattle.book.specs.Formula.{soundClause};
+ghost use Rattle.book.specs.Formula.{maxVariables, maxClauses, soundClause};
 ghost use Rattle.book.specs.Inner.Marks.{Bounded, Marked};
 ghost use Rattle.book.specs.Numbers.{variablesOf, clausesOf, literalsOf, clauseStart, clausesFrom, rising, wellFormed};
 ghost use lib.ListN.{length, getD};
-ghost use mathlib.Core.Bool.{true};
 ghost use mathlib.Core.List.{[]};
 ghost use mathlib.Core.Path.{_≡_};
+use crate::limits::MARKS;
+use crate::limits::MAX_CLAUSE;
+use crate::limits::MAX_CLAUSES;
+use crate::limits::MAX_LITERALS;
+use crate::limits::MAX_VARIABLES;
 use crate::marks::mark;
 
 pub(crate) fn wide(x: u32) -> usize
@@ -19,7 +23,7 @@ pub(crate) fn wide(x: u32) -> usize
 }
 
 // The number at a place, 0 where there is none.
-fn number(book: &[u32], place: usize) -> usize
+fn number_at(book: &[u32], place: usize) -> usize
     ensures { λ r. ⌜ r ≡ getD (now (book .entry)) place 0 ⌝ }
     ensures { λ r. ⌜ r < 4294967296 ⌝ }
 {
@@ -33,30 +37,30 @@ fn number(book: &[u32], place: usize) -> usize
 pub fn variables(book: &[u32]) -> usize
     ensures { λ r. ⌜ r ≡ variablesOf (now (book .entry)) ⌝ }
 {
-    number(book, 0)
+    number_at(book, 0)
 }
 
 // C, the number of clauses.
 pub fn clauses(book: &[u32]) -> usize
     ensures { λ r. ⌜ r ≡ clausesOf (now (book .entry)) ⌝ }
 {
-    number(book, 1)
+    number_at(book, 1)
 }
 
 // L, the number of literals.
 pub fn literals(book: &[u32]) -> usize
     ensures { λ r. ⌜ r ≡ literalsOf (now (book .entry)) ⌝ }
 {
-    number(book, 2)
+    number_at(book, 2)
 }
 
 // The place at which clause c, from 0, begins; it ends where clause c + 1 begins.
 pub fn clause_start(book: &[u32], c: usize) -> usize
     ensures { λ r. ⌜ r ≡ clauseStart (now (book .entry)) c ⌝ }
 {
-    let literals = number(book, 1) + 4;
+    let literals = number_at(book, 1) + 4;
     if c < book.len() {
-        return literals + number(book, 3 + c);
+        return literals + number_at(book, 3 + c);
     }
     literals
 }
@@ -77,8 +81,8 @@ fn starts_rise(book: &[u32], clauses: usize) -> bool
 }
 
 // The clause has 1 to 255 literals of the V variables, no variable twice. No variable bears the tag before.
-fn clause_sound(clause: &[u32], variables: usize, tag: u16, marks: &mut [u16; 501]) -> bool
-    requires { ⌜ variables ≤ 500 ⌝ }
+fn clause_sound(clause: &[u32], variables: usize, tag: u16, marks: &mut [u16; MARKS]) -> bool
+    requires { ⌜ variables ≤ maxVariables ⌝ }
     requires { ⌜ Marked (now marks) tag [] ⌝ }
     ensures { λ r. ⌜ r ≡ soundClause variables (now (clause .entry)) ⌝ }
     ensures { λ r. ⌜ Bounded (now (marks .exit)) tag ⌝ }
@@ -86,7 +90,7 @@ fn clause_sound(clause: &[u32], variables: usize, tag: u16, marks: &mut [u16; 50
     if clause.len() < 1 {
         return false;
     }
-    if clause.len() > 255 {
+    if clause.len() > MAX_CLAUSE {
         return false;
     }
     let mut i = 0;
@@ -110,11 +114,11 @@ fn clause_sound(clause: &[u32], variables: usize, tag: u16, marks: &mut [u16; 50
 fn clauses_sound(book: &[u32], variables: usize, clauses: usize) -> bool
     requires { ⌜ Parted (now book) ⌝ }
     requires { ⌜ clauses ≡ clausesOf (now book) ⌝ }
-    requires { ⌜ clauses ≤ 1500 ⌝ }
-    requires { ⌜ variables ≤ 500 ⌝ }
+    requires { ⌜ clauses ≤ maxClauses ⌝ }
+    requires { ⌜ variables ≤ maxVariables ⌝ }
     ensures { λ r. ⌜ r ≡ all (soundClause variables) (clausesFrom (now (book .entry)) 0 clauses) ⌝ }
 {
-    let mut marks = [0u16; 501];
+    let mut marks = [0u16; MARKS];
     let mut tag = 0u16;
     let mut c = 0;
     while c < clauses {
@@ -133,16 +137,16 @@ fn clauses_sound(book: &[u32], variables: usize, clauses: usize) -> bool
 pub fn well_formed(book: &[u32]) -> bool
     ensures { λ r. ⌜ r ≡ wellFormed (now (book .entry)) ⌝ }
 {
-    let variables = number(book, 0);
-    let clauses = number(book, 1);
-    let literals = number(book, 2);
+    let variables = number_at(book, 0);
+    let clauses = number_at(book, 1);
+    let literals = number_at(book, 2);
     if book.len() < clauses + literals + 4 {
         return false;
     }
-    if number(book, 3) != 0 {
+    if number_at(book, 3) != 0 {
         return false;
     }
-    if number(book, 3 + clauses) != literals {
+    if number_at(book, 3 + clauses) != literals {
         return false;
     }
     if !starts_rise(book, clauses) {
@@ -151,13 +155,13 @@ pub fn well_formed(book: &[u32]) -> bool
     if variables < 1 {
         return false;
     }
-    if variables > 500 {
+    if variables > MAX_VARIABLES {
         return false;
     }
-    if clauses > 1500 {
+    if clauses > MAX_CLAUSES {
         return false;
     }
-    if literals > 6000 {
+    if literals > MAX_LITERALS {
         return false;
     }
     clauses_sound(book, variables, clauses)

@@ -2,10 +2,10 @@
 ghost use mathlib.Core.Path.{_≡_};
 ghost use lib.ListN.{length};
 ghost use Rattle.book.specs.Reading.{readText};
-ghost use Rattle.book.specs.Answer.{answerTo, numbersAfter};
+ghost use Rattle.book.specs.Answer.{readAnswer, numbersAfter};
 ghost use Rattle.run.specs.Run.{trailBehind};
 ghost use Rattle.session.specs.Outcomes.{requiredAnswer, openAnswer, openNumbers, decideAnswer, decideNumbers, backtrackAnswer, backtrackNumbers, lookupAnswer, totalAnswer, copyAnswer, copyNumbers};
-ghost use Rattle.capi.specs.Codes.{conflictCode, refusalCode, readingCode, answerCode, backCode, assignedCode, countCode, sumCode, sumAfter};
+ghost use Rattle.capi.specs.Codes.{refusalCode, readingCode, answerCode, backCode, assignedCode, countCode, sumCode, sumAfter};
 
 fn refusal(number: u32) -> u64
     ensures { λ r. ⌜ r ≡ refusalCode number ⌝ }
@@ -68,7 +68,7 @@ fn count_code(count: session::Count) -> u64
 // Reads a rule book.
 #[no_mangle]
 pub extern "C" fn tariff_read(text: &[u8], book: &mut [u32]) -> u64
-    ensures { λ r. ⌜ r ≡ readingCode (answerTo (readText (now (text .entry))) (length (now (book .entry)))) ⌝ }
+    ensures { λ r. ⌜ r ≡ readingCode (readAnswer (readText (now (text .entry))) (length (now (book .entry)))) ⌝ }
     ensures { λ r. ⌜ now (book .exit) ≡ numbersAfter (readText (now (text .entry))) (now (book .entry)) ⌝ }
 {
     reading_code(book::read(text, book))

@@ -1,11 +1,12 @@
 -- A session that holds a run answers as the run does, and the lines printed are the run's.
+use Rattle.book.specs.Formula.{maxVariables}
 use Prim.Native.Nat.{ℕ, suc, _+_, _-_, _≤_}
 use mathlib.Core.Path.{_≡_, refl, sym, ap, _∙_}
 use mathlib.Core.Bool.{Bool, true, false, cond}
 use mathlib.Core.List.{List}
 use native.Mathlib.Omega.{arith}
 use lib.Dec.{eqb}
-use lib.ListN.{length, take, drop, length-append, length-drop}
+use lib.ListN.{length, drop, length-append, length-drop}
 use lib.Seq.{take-all, take-at, drop-append-le}
 use Rattle.base.specs.Lists.{sum, table, copied}
 use Rattle.book.specs.Numbers.{formulaOf}
@@ -13,14 +14,15 @@ use Rattle.book.proofs.WellFormedLaws.{well-formed-sound, well-formed-limited}
 use Rattle.run.proofs.Propagation.{valid-structure}
 use Rattle.run.proofs.Validity.{trail-short}
 use Rattle.run.specs.Trail.{literalAt, decisions}
-use Rattle.run.specs.Run.{Run, inConflict, decide, backtrack, trailBehind}
-use Rattle.run.specs.Calls.{Call, decision, backtrackBy, decideRefusal, backtrackRefusal, refusal, step, perform}
+use Rattle.run.specs.Run.{Run, inConflict, decide, trailBehind}
+use Rattle.run.specs.Calls.{Call, decision, backtrackBy, decideRefusal, backtrackRefusal, refusal, step, performCall}
 use Rattle.run.proofs.Theorems.{step-valid, decide-extends}
-use Rattle.session.specs.Outcomes.{propagatedAnswer, decideAnswer, decideNumbers, decisionRefusal, backtrackAnswer, backtrackNumbers, sessionBacktrackRefusal, readRefusal, figuresOf, figuresAnswer, totalAnswer, copyAnswer, copyNumbers, callNumbers}
-use Rattle.session.specs.Layout.{held}
+use Rattle.session.specs.Outcomes.{propagatedAnswer, decideAnswer, decideNumbers, sessionDecideRefusal, backtrackAnswer, backtrackNumbers, sessionBacktrackRefusal, figuresOf, figuresAnswer, totalAnswer, copyAnswer, copyNumbers, callNumbers}
+use Rattle.validation.specs.Validation.{readRefusal}
+use Rattle.layout.specs.Layout.{held}
 use Rattle.base.proofs.Lists.{part}
 use Rattle.base.proofs.Tables.{length-table}
-use Rattle.session.proofs.CallLaws.{held-after, call-refusal, call-numbers}
+use Rattle.session.proofs.CallLaws.{held-overwritten, call-refusal, call-numbers}
 use Rattle.session.specs.declared.Answer.{Answer}
 use Rattle.session.specs.declared.Answer.the-variants as answer
 use Rattle.session.specs.declared.Back.{Back}
@@ -35,28 +37,28 @@ use Rattle.script.specs.Buffer.{fitting}
 use Rattle.script.specs.Answers.{impliedLine, clauseLine, backLine, refusedLine, endLine}
 use Rattle.script.specs.Script.{lineOf}
 use Rattle.script.specs.Desk.{propagatedLine, unlessRefused, answerTo, stepOf}
-use Rattle.desk.specs.Answering.{Holds, Prints, ShowsImplied, Propagated, Answers}
+use Rattle.desk.specs.Answering.{HoldsRun, Prints, ShowsImplied, Propagated, Answers}
 
-module _ (book session : List ℕ) (run : Run) (buffer : List ℕ) (h : Holds book session run buffer) where
+module _ (book session : List ℕ) (run : Run) (buffer : List ℕ) (h : HoldsRun book session run buffer) where
   held-is : held (formulaOf book) session ≡ run
-  held-is = rw (h .numbers) (held-after book buffer (h .well) run (h .valid))
+  held-is = rw (h .numbers) (held-overwritten book buffer (h .well) run (h .valid))
 
   read-none : readRefusal book session ≡ 0
   unfolding readRefusal
   read-none = rw (h .numbers) (call-refusal book buffer (h .well) run (h .valid) (λ (r : Run). 0))
 
-  pub figures-are : figuresAnswer book session ≡ shown.Of (length (decisions (run .trail))) (run .backtracks) (length (run .trail)) (run .conflict)
+  pub run-figures : figuresAnswer book session ≡ shown.Of (length (decisions (run .trail))) (run .backtracks) (length (run .trail)) (run .conflict)
   unfolding figuresAnswer figuresOf
-  figures-are = rw (read-none, held-is)
+  run-figures = rw (read-none, held-is)
 
-  pub total-is : totalAnswer book session ≡ total.Checks (sum (run .checks))
+  pub run-total : totalAnswer book session ≡ total.Checks (sum (run .checks))
   unfolding totalAnswer
-  total-is = rw (read-none, held-is)
+  run-total = rw (read-none, held-is)
 
   -- the whole trail is copied: how many literals it has, and the last n of them
-  pub count-is : copyAnswer book session (trailBehind 0) ≡ count.Of (length (run .trail))
+  pub run-count : copyAnswer book session (trailBehind 0) ≡ count.Of (length (run .trail))
   unfolding copyAnswer trailBehind
-  count-is = rw (read-none, held-is, length-table)
+  run-count = rw (read-none, held-is, length-table)
 
   copy-is : (n : ℕ) (out : List ℕ) → n ≤ length (run .trail) → length (run .trail) ≤ length out
       → part (length (run .trail) - n) (length (run .trail)) (copyNumbers book session (trailBehind 0) out) ≡ trailBehind (length (run .trail) - n) run
@@ -73,7 +75,7 @@ module _ (book session : List ℕ) (run : Run) (buffer : List ℕ) (h : Holds bo
       )
       (take-at (drop first whole) (drop (length whole) out) (length (run .trail) - first) (length-drop first whole ∙ ap (λ (k : ℕ). k - first) size))
 
-  pub trail-few : length (run .trail) ≤ 500
+  pub trail-few : length (run .trail) ≤ maxVariables
   trail-few = omega (arith, trail-short (valid-structure (h .valid) .trailed), well-formed-limited book (h .well) .variables)
 
   -- the literals that a call implied: the last ones of the trail
@@ -121,14 +123,14 @@ module _ (book session : List ℕ) (run : Run) (buffer : List ℕ) (h : Holds bo
       ≡ cond (eqb (decideRefusal (formulaOf book) l run) 0)
       (propagatedAnswer (suc (length (run .trail))) (decide (formulaOf book) l run))
       (answer.Refused (decideRefusal (formulaOf book) l run))
-  unfolding decideAnswer decisionRefusal
+  unfolding decideAnswer sessionDecideRefusal
   decide-answer l = rw (held-is, h .numbers, call-refusal book buffer (h .well) run (h .valid) (decideRefusal (formulaOf book) l))
 
   back-answer : (k : ℕ) → backtrackAnswer book session k ≡ cond (eqb (backtrackRefusal k run) 0) back.Done (back.Refused (backtrackRefusal k run))
   unfolding backtrackAnswer sessionBacktrackRefusal
   back-answer k = rw (h .numbers, call-refusal book buffer (h .well) run (h .valid) (backtrackRefusal k))
 
-  next-holds : (call : Call) (now : List ℕ) → now ≡ callNumbers book session call → Holds book now (step (formulaOf book) run call) buffer
+  next-holds : (call : Call) (now : List ℕ) → now ≡ callNumbers book session call → HoldsRun book now (step (formulaOf book) run call) buffer
   next-holds call now e =
       record {
         well = h .well;
@@ -139,17 +141,17 @@ module _ (book session : List ℕ) (run : Run) (buffer : List ℕ) (h : Holds bo
   -- a decision: the answer is printed as the run's
   pub choose-answered : (l : ℕ) (made : Answer) (now out printed : List ℕ) (r : ℕ) → made ≡ decideAnswer book session l → now ≡ decideNumbers book session l
       → Propagated book now (Decision l) made out printed r
-      → Prints (answerTo (formulaOf book) run (line.Choose l)) out printed r × Holds book now (stepOf (formulaOf book) run (line.Choose l)) buffer
-  unfolding answerTo stepOf unlessRefused callNumbers step refusal perform
+      → Prints (answerTo (formulaOf book) run (line.Choose l)) out printed r × HoldsRun book now (stepOf (formulaOf book) run (line.Choose l)) buffer
+  unfolding answerTo stepOf unlessRefused callNumbers step refusal performCall
   choose-answered l made now out printed r a e s = (go (eqb (decideRefusal (formulaOf book) l run) 0) refl, holds)
     where
-      holds : Holds book now (step (formulaOf book) run (decision l)) buffer
+      holds : HoldsRun book now (step (formulaOf book) run (decision l)) buffer
       holds = next-holds (decision l) now e
 
       go : (b : Bool) → eqb (decideRefusal (formulaOf book) l run) 0 ≡ b
           → Prints (cond b (propagatedLine (Decision l) (suc (length (run .trail))) (decide (formulaOf book) l run)) (refusedLine (decideRefusal (formulaOf book) l run))) out printed r
       go true q =
-          let next : Holds book now (decide (formulaOf book) l run) buffer = rw q at holds in
+          let next : HoldsRun book now (decide (formulaOf book) l run) buffer = rw q at holds in
           let more = decide-extends (formulaOf book) l run in
           let long : length (decide (formulaOf book) l run .trail) ≡ length (more .0) + suc (length (run .trail))
           = ap length (more .2) ∙ length-append (more .0) _ in
@@ -165,15 +167,15 @@ module _ (book session : List ℕ) (run : Run) (buffer : List ℕ) (h : Holds bo
       go true q = refl
       go false q = let z : _≡_ {A = ℕ} 0 1 = cc in absurd (omega arith)
 
-  pub back-refused : (k n : ℕ) → back.Refused n ≡ backtrackAnswer book session k → answerTo (formulaOf book) run (line.Back k) ≡ refusedLine n
+  pub back-refused-line : (k n : ℕ) → back.Refused n ≡ backtrackAnswer book session k → answerTo (formulaOf book) run (line.Back k) ≡ refusedLine n
   unfolding answerTo unlessRefused
-  back-refused k n a = go (eqb (backtrackRefusal k run) 0) (a ∙ back-answer k)
+  back-refused-line k n a = go (eqb (backtrackRefusal k run) 0) (a ∙ back-answer k)
     where
       go : (b : Bool) → back.Refused n ≡ cond b back.Done (back.Refused (backtrackRefusal k run)) → cond b (backLine k) (refusedLine (backtrackRefusal k run)) ≡ refusedLine n
       go true q = let z : _≡_ {A = ℕ} 0 1 = cc in absurd (omega arith)
       go false q = let is : backtrackRefusal k run ≡ n = cc in ap refusedLine is
 
-  pub back-holds : (k : ℕ) (now : List ℕ) → now ≡ backtrackNumbers book session k → Holds book now (stepOf (formulaOf book) run (line.Back k)) buffer
+  pub back-holds : (k : ℕ) (now : List ℕ) → now ≡ backtrackNumbers book session k → HoldsRun book now (stepOf (formulaOf book) run (line.Back k)) buffer
   unfolding stepOf callNumbers
   back-holds k now e = next-holds (backtrackBy k) now e
 
@@ -182,8 +184,8 @@ module _ (book session : List ℕ) (run : Run) (buffer : List ℕ) (h : Holds bo
       → (r ≡ fitting (endLine d b v) out) × (now ≡ copied (endLine d b v) out)
       → Prints (endLine (length (decisions (run .trail))) (run .backtracks) (sum (run .checks))) out now r
   end-prints d b t c v out now r f s p =
-      let figures = f ∙ figures-are in
-      let checks = s ∙ total-is in
+      let figures = f ∙ run-figures in
+      let checks = s ∙ run-total in
       let di : d ≡ length (decisions (run .trail)) = cc figures in
       let bi : b ≡ run .backtracks = cc figures in
       let vi : v ≡ sum (run .checks) = cc checks in
@@ -242,6 +244,6 @@ module _ (book session bytes next out now : List ℕ) (r : ℕ) where
       → (r ≡ fitting (refusedLine n) out) × (now ≡ copied (refusedLine n) out) → Answers book session next bytes out now r
   answered-refusal k n told a e p run buffer h =
       record {
-        prints = rw (← told, back-refused book session run buffer h k n a) (record { bytes = p .1; count = p .0 });
+        prints = rw (← told, back-refused-line book session run buffer h k n a) (record { bytes = p .1; count = p .0 });
         holds = rw (← told) (back-holds book session run buffer h k next e);
       }

@@ -5,12 +5,9 @@ use native.Mathlib.Numerals.{add-one}
 use mathlib.Core.Path.{_≡_, refl, sym, ap, _∙_}
 use mathlib.Core.Bool.{Bool, true, false, cond}
 use mathlib.Core.List.{List, [], _∷_, _++_, append-assoc, append-nil}
-use mathlib.Core.Logic.{⊎-elim}
 use borrow.Author.Tests.{ne-eqb}
-use lib.Dec.{eqb}
 use lib.ListN.{length, take, getD, set, length-set, length-append, length-take}
 use lib.Seq.{length-take-le, take-all, take-append-le, take-suc-set}
-use Rattle.base.proofs.Bools.{below}
 use Rattle.book.specs.Formula.{Formula}
 use Rattle.book.specs.Numbers.{formulaOf}
 use Rattle.book.specs.Text.{lineEnd}
@@ -19,8 +16,8 @@ use Rattle.run.specs.Run.{Run}
 use Rattle.script.specs.Script.{lineOf, scriptLines}
 use Rattle.script.specs.Desk.{stepOf}
 use Rattle.script.proofs.LongLines.{kept-line}
-use Rattle.desk.specs.Answering.{Holds, Answers}
-use Rattle.desk.specs.Following.{Script, afterByte, afterBytes, finished, afterLines, Follows, TakesByte, TakesBytes}
+use Rattle.desk.specs.Answering.{Answers}
+use Rattle.desk.specs.Following.{Script, afterByte, afterBytes, finished, afterLines, TakesByte, TakesBytes}
 
 module _ (formula : Formula) where
   -- one byte more

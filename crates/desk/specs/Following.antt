@@ -10,7 +10,7 @@ use Rattle.book.specs.Text.{lineEnd}
 use Rattle.run.specs.Run.{Run}
 use Rattle.script.specs.Script.{lineOf}
 use Rattle.script.specs.Desk.{stepOf}
-use Rattle.desk.specs.Answering.{Holds}
+use Rattle.desk.specs.Answering.{HoldsRun}
 
 pub record Script : Type 0 where
   pub run : Run
@@ -41,7 +41,7 @@ afterLines formula run (line ∷ lines) = afterLines formula (stepOf formula run
 
 -- the session holds the run, and as much of the line as can have a meaning, and one byte more, stands in the buffer
 pub record Follows (book session line : List ℕ) (kept : ℕ) (script : Script) (buffer : List ℕ) : Type 0 where
-  pub holds : Holds book session (script .run) buffer
+  pub holds : HoldsRun book session (script .run) buffer
   pub room : length line ≡ 12
   pub within : kept ≤ 12
   pub bytes : take kept line ≡ take 12 (script .begun)

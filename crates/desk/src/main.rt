@@ -1,15 +1,22 @@
 // Reads the rule book `tariff.cnf`, then a script from standard input, and prints an answer to each line.
-ghost use mathlib.Core.Path.{_≡_};
 ghost use Rattle.desk.specs.Answering.{ShowsImplied, Propagated, Answers, Finishes};
 ghost use Rattle.desk.specs.Following.{TakesByte, TakesBytes};
+use book::limits::MAX_BOOK;
+use book::limits::MAX_TEXT;
+use book::limits::MAX_VARIABLES;
+use layout::offsets::MAX_SESSION;
+use layout::values::wide;
 use libc::STDIN_FILENO;
 use libc::STDOUT_FILENO;
 
-fn wide(x: u32) -> usize
-    ensures { λ r. ⌜ r ≡ x ⌝ }
-{
-    x as usize
-}
+// As much of a line as is kept: one byte more than the longest line with a meaning.
+const LINE: usize = 12;
+
+// The bytes of an answer.
+const OUT: usize = 4096;
+
+// As many literals as a trail has at most, as a count.
+const MOST: u32 = MAX_VARIABLES as u32;
 
 // Prints the first `n` bytes.
 fn print(bytes: &[u8], n: usize) {
@@ -18,7 +25,7 @@ fn print(bytes: &[u8], n: usize) {
     }
 }
 
-// The text of the rule book, as much as tells that it is over 60,000 bytes; no file is an empty text.
+// The text of the rule book, as much as tells that it is over the limit; no file is an empty text.
 fn read_text(text: &mut [u8]) -> usize {
     let file = os::open_read(b"tariff.cnf");
     if file < 0 {
@@ -39,14 +46,14 @@ fn show_implied(
 ) -> usize
     ensures { λ r. ⌜ ShowsImplied (now (book .entry)) (now (session .entry)) cause implied (now (out .entry)) (now (out .exit)) r ⌝ }
 {
-    let mut literals = [0u32; 500];
+    let mut literals = [0u32; MAX_VARIABLES];
     match session::trail_from(book, session, 0, &mut literals) {
         session::Count::Refused(_) => 0,
         session::Count::Of(trail) => {
             if trail < implied {
                 return 0;
             }
-            if 500 < trail {
+            if MOST < trail {
                 return 0;
             }
             let from = wide(trail - implied);
@@ -95,7 +102,7 @@ fn take_byte(book: &[u32], session: &mut [u32], line: &mut [u8], kept: usize, by
     ensures { λ r. ⌜ TakesByte (now (book .entry)) (now (session .entry)) (now (session .exit)) (now (line .entry)) (now (line .exit)) kept byte r ⌝ }
 {
     if byte == 10 {
-        let mut out = [0u8; 4096];
+        let mut out = [0u8; OUT];
         if kept <= line.len() {
             let n = answer(book, session, &line[..kept], &mut out);
             print(&out, n);
@@ -140,12 +147,12 @@ fn take_some(book: &[u32], session: &mut [u32], line: &mut [u8], kept: usize) ->
 
 // Answers the lines of the script. A proved loop has to end, so it counts its turns down, from a number that no run uses up.
 fn answer_all(book: &[u32], session: &mut [u32]) {
-    let mut line = [0u8; 12];
+    let mut line = [0u8; LINE];
     let mut kept: usize = 0;
     let mut turns = u64::MAX;
     while turns > 0 {
         let next = take_some(book, session, &mut line, kept);
-        if 12 < next {
+        if LINE < next {
             turns = 0;
         } else {
             kept = next;
@@ -177,8 +184,8 @@ fn finish(book: &[u32], session: &[u32], out: &mut [u8]) -> usize
 
 // A session on a book that was read.
 fn run(book: &[u32]) {
-    let mut session = [0u32; 11504];
-    let mut out = [0u8; 4096];
+    let mut session = [0u32; MAX_SESSION];
+    let mut out = [0u8; OUT];
     let opened = session::open(book, &mut session);
     let n = propagated(book, &session, script::Cause::Opening, opened, &mut out);
     print(&out, n);
@@ -188,10 +195,10 @@ fn run(book: &[u32]) {
 }
 
 fn main() {
-    let mut text = [0u8; 60001];
-    let mut book = [0u32; 7504];
+    let mut text = [0u8; MAX_TEXT + 1];
+    let mut book = [0u32; MAX_BOOK];
     let n = read_text(&mut text);
-    if n <= 60001 {
+    if n <= text.len() {
         match book::read(&text[..n], &mut book) {
             book::Reading::Refused(refusal) => {
                 let mut out = [0u8; 64];

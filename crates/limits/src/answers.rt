@@ -1,133 +1,102 @@
-// The answers of session calls, printed in the paper's words: the lines of a script as `script` writes them, without their ends.
-use crate::printing::print;
-use crate::printing::print_number;
-use crate::printing::print_numbers;
-use crate::space::same;
-use crate::space::untouched;
-use crate::table::wide;
-use script::Cause;
+// The answers of session calls in the paper's words. Each function answers how many literals of the trail are to be listed behind.
 use session::Answer;
 use session::Assigned;
 use session::Back;
 use session::Count;
 use session::Shown;
 use session::Sum;
+use trials::messages;
+use trials::messages::say;
+use trials::messages::say_literal;
+use trials::messages::say_numbers;
+use trials::messages::say_wide;
+use trials::rows::wide;
+use trials::space::untouched;
 
-// Prints the first n bytes without the last one.
-fn print_line(out: &[u8], n: usize) {
-    if 0 < n {
-        let end = n - 1;
-        if end <= out.len() {
-            print(&out[0..end]);
-        }
+// Instead of a number of literals: the call was refused.
+pub const WAS_REFUSED: u32 = 4_294_967_295;
+
+pub fn refused(refusal: u32) -> u32 {
+    say(messages::REFUSED, refusal);
+    WAS_REFUSED
+}
+
+// What was called: an opening, which has no literal, or a decision.
+fn called(literal: u32) {
+    if literal == 0 {
+        messages::print(messages::OPENING);
+    } else {
+        say_literal(messages::DECISION, literal);
     }
-}
-
-pub fn refused(number: u32) {
-    let mut out = [0u8; 32];
-    let n = script::write_refused(number, &mut out);
-    print_line(&out, n);
-}
-
-// A refusal of a call that may write: the numbers are those of the copy that was made before it.
-fn refused_unchanged(session: &[u32], kept: &[u32], number: u32) {
-    refused(number);
-    if !same(session, kept) {
-        print(b", lent numbers changed");
-    }
-}
-
-// The last literals of the trail, so many as the call implied.
-fn implied(book: &[u32], session: &[u32], cause: Cause, count: u32) {
-    let mut literals = [0u32; 500];
-    let mut out = [0u8; 4096];
-    match session::trail_from(book, session, 0, &mut literals) {
-        Count::Refused(number) => {
-            refused(number);
-        }
-        Count::Of(trail) => {
-            let to = wide(trail);
-            if wide(count) <= to {
-                let from = to - wide(count);
-                if to <= 500 {
-                    let n = script::write_implied(cause, &literals[from..to], &mut out);
-                    print_line(&out, n);
-                }
-            }
-        }
-    }
-}
-
-fn conflict(cause: Cause, clause: u32) {
-    let mut out = [0u8; 64];
-    let n = script::write_clause(cause, clause, &mut out);
-    print_line(&out, n);
 }
 
 // What an opening or a decision answers.
-pub fn propagated(book: &[u32], session: &[u32], kept: &[u32], cause: Cause, answer: Answer) {
+pub fn propagated(literal: u32, answer: Answer) -> u32 {
     match answer {
         Answer::Implied(count) => {
-            implied(book, session, cause, count);
+            called(literal);
+            say(messages::IMPLIED, count);
+            messages::print(messages::COLON);
+            count
         }
         Answer::Conflict(clause) => {
-            conflict(cause, clause);
+            called(literal);
+            say(messages::CONFLICT, clause);
+            0
         }
-        Answer::Refused(number) => {
-            refused_unchanged(session, kept, number);
-        }
+        Answer::Refused(refusal) => refused(refusal),
     }
 }
 
-pub fn back(session: &[u32], kept: &[u32], k: u32, answer: Back) {
-    let mut out = [0u8; 32];
+// What a list of calls answers, where it is to be said.
+pub fn replayed(said: bool, answer: Answer) -> u32 {
+    if said {
+        return propagated(0, answer);
+    }
+    0
+}
+
+pub fn back(k: u32, answer: Back) -> u32 {
     match answer {
         Back::Done => {
-            let n = script::write_back(k, &mut out);
-            print_line(&out, n);
+            say(messages::BACKTRACK, k);
+            0
         }
-        Back::Refused(number) => {
-            refused_unchanged(session, kept, number);
-        }
+        Back::Refused(refusal) => refused(refusal),
     }
 }
 
-pub fn assigned(variable: u32, answer: Assigned) {
+// The word for a value.
+fn value(answer: Assigned) -> u32 {
     match answer {
-        Assigned::Open => {
-            variable_is(variable, b" open");
-        }
-        Assigned::Positive => {
-            variable_is(variable, b" wanted");
-        }
-        Assigned::Negative => {
-            variable_is(variable, b" barred");
-        }
-        Assigned::Refused(number) => {
-            refused(number);
-        }
+        Assigned::Open => messages::OPEN,
+        Assigned::Positive => messages::POSITIVE,
+        Assigned::Negative => messages::NEGATIVE,
+        Assigned::Refused(refusal) => refused(refusal),
     }
 }
 
-fn variable_is(variable: u32, said: &[u8]) {
-    print(b"feature ");
-    print_number(wide(variable));
-    print(said);
+pub fn assigned(variable: u32, answer: Assigned) -> u32 {
+    let word = value(answer);
+    if word == WAS_REFUSED {
+        return word;
+    }
+    say(messages::VARIABLE, variable);
+    messages::print(word);
+    0
 }
 
-pub fn sum(answer: Sum) {
+pub fn sum(answer: Sum) -> u32 {
     match answer {
         Sum::Checks(checks) => {
-            print(b"checks ");
-            io::print_decimal(1, checks);
+            say_wide(messages::TOTAL, checks as usize);
+            0
         }
-        Sum::Refused(number) => {
-            refused(number);
-        }
+        Sum::Refused(refusal) => refused(refusal),
     }
 }
 
-pub fn figures(answer: Shown) {
+pub fn figures(answer: Shown) -> u32 {
     match answer {
         Shown::Of {
             decisions,
@@ -135,48 +104,56 @@ pub fn figures(answer: Shown) {
             trail,
             conflict,
         } => {
-            print(b"choices ");
-            print_number(wide(decisions));
-            print(b" backs ");
-            print_number(wide(backtracks));
-            print(b" trail ");
-            print_number(wide(trail));
-            print(b" rule ");
-            print_number(wide(conflict));
+            say(messages::DECISIONS, decisions);
+            say(messages::BACKTRACKS, backtracks);
+            say(messages::TRAIL, trail);
+            say(messages::CONFLICT, conflict);
+            0
         }
-        Shown::Refused(number) => {
-            refused(number);
+        Shown::Refused(refusal) => refused(refusal),
+    }
+}
+
+pub fn required(answer: Count) -> u32 {
+    match answer {
+        Count::Of(n) => {
+            say(messages::REQUIRED, n);
+            0
+        }
+        Count::Refused(refusal) => refused(refusal),
+    }
+}
+
+// A count, behind a word, and what the numbers hold that were lent for a copy; a refusal must leave them alone.
+pub fn copied(word: u32, answer: Count, copy: &[u32]) -> u32 {
+    match answer {
+        Count::Of(n) => {
+            say(word, n);
+            messages::print(messages::COLON);
+            say_numbers(copy);
+            0
+        }
+        Count::Refused(refusal) => {
+            let answered = refused(refusal);
+            untouched(copy, 0);
+            answered
         }
     }
 }
 
-// The required length of a session.
-pub fn needed(answer: Count) {
+// How long the trail is, 0 where it is not told.
+pub fn length(answer: Count) -> usize {
     match answer {
-        Count::Of(n) => {
-            print(b"need ");
-            print_number(wide(n));
-        }
-        Count::Refused(number) => {
-            refused(number);
-        }
+        Count::Of(n) => wide(n),
+        Count::Refused(_) => 0,
     }
 }
 
-// How many numbers there are to copy, and what the numbers that were lent for the copy hold.
-pub fn copied(said: &[u8], answer: Count, copy: &[u32]) {
-    match answer {
-        Count::Of(n) => {
-            print(said);
-            print_number(wide(n));
-            print(b":");
-            print_numbers(copy);
-        }
-        Count::Refused(number) => {
-            refused(number);
-            if !untouched(copy, 0) {
-                print(b", lent numbers changed");
-            }
-        }
+// The form of a book.
+pub fn form(well_formed: bool) -> u32 {
+    if well_formed {
+        messages::print(messages::WELL_FORMED);
+        return 0;
     }
+    refused(11)
 }

@@ -1,46 +1,21 @@
-// Executes the limits of document 01 on the code: one printed line for each, held to the stored `stdout`.
+// Executes the limits of document 01 on the code: each line of standard input is a trial, and prints one line, held to the stored `stdout`.
 mod answers;
-mod buffer;
-mod build;
 mod calls;
-mod clauses;
-mod conflicts;
-mod counts;
-mod damage;
-mod form;
-mod header;
-mod lending;
 mod lines;
-mod opening;
-mod orders;
-mod places;
-mod printing;
-mod reading;
-mod refusals;
+mod reads;
 mod sessions;
-mod sizes;
-mod space;
-mod table;
-mod trials;
-mod watches;
-mod words;
+mod steps;
 
+use libc::STDIN_FILENO;
+use trials::messages;
+
+// Reads all trials at once. Where they fill the space the last line may be cut, so nothing is tried.
 fn main() {
-    header::all();
-    words::all();
-    clauses::all();
-    orders::all();
-    places::all();
-    buffer::all();
-    form::all();
-    opening::all();
-    lending::all();
-    damage::all();
-    watches::all();
-    conflicts::all();
-    refusals::all();
-    counts::all();
-    reading::all();
-    sizes::all();
-    lines::all();
+    let mut space = io::large_buffer();
+    let n = io::read_full(STDIN_FILENO, &mut space);
+    if n < 65536 {
+        lines::run(&space[0..n]);
+    } else {
+        messages::print(messages::CUT);
+    }
 }

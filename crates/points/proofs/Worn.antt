@@ -7,7 +7,7 @@ use Rattle.base.specs.Lists.{all, flat, member, distinct}
 use Rattle.book.specs.Formula.{literalWithin, soundClause, sound}
 use Rattle.run.specs.Valid.{Valid}
 use Rattle.run.proofs.Theorems.{reference-valid}
-use Rattle.points.specs.Points.{listing, calls, after, worn}
+use Rattle.points.specs.Points.{listing, calls, runAfter, worn}
 
 listing-sound : sound listing ≡ true
 unfolding sound soundClause literalWithin all flat member distinct
@@ -15,7 +15,7 @@ listing-sound = refl
 
 pub worn-valid : Valid listing (worn 999999)
 worn-valid =
-    let valid : Valid listing (after 2) = reference-valid listing listing-sound (take 2 calls) in
+    let valid : Valid listing (runAfter 2) = reference-valid listing listing-sound (take 2 calls) in
     record {
       trail-within = valid .trail-within;
       cells-length = valid .cells-length;

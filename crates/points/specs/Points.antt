@@ -7,17 +7,17 @@ use lib.ListN.{length, take}
 use Rattle.base.specs.Lists.{all, any, keep, flat, empty, member, distinct, same, begins, times, table as values, upTo, sum}
 use Rattle.book.specs.Formula.{Formula, positive, negative, literalWithin, soundClause, sound}
 use Rattle.book.specs.Numbers.{starts, numbersOf, clausesFrom, rising, wellFormed}
-use Rattle.book.specs.Text.{blank, lineEnd, extend, split, kept, linesOf, filled, wordsOf, decimal, isDigit, unsigned, unsignedToken, negativeToken, tokenOf, headed, headerIn, headerOf}
+use Rattle.book.specs.Text.{blank, lineEnd, extend, split, notSkipped, linesOf, filled, wordsOf, decimal, isDigit, unsigned, unsignedToken, negativeToken, tokenOf, headed, headerIn, headerOf}
 use Rattle.book.specs.Faults.{fault, opened, closed, written, notNumber, overVariables, wrongLength, repeated, surplus, unfinished, overLiterals, faultsAt, faultsFrom, outside, bodyOf, faultsUnder, faultsOf}
 use Rattle.book.specs.Reading.{before, earlier, least, onto, clausesIn, formulaUnder, formulaIn, refused, accepted, judged, readText}
 use Rattle.book.specs.Printer.{digits, printNumber}
 use Rattle.run.specs.Trail.{Entry, opposite, place, literalAt, isTrue, decisions, level, lowered, cut}
 use Rattle.run.specs.Scan.{watched, next, oneMore, scanFrom, scan}
-use Rattle.run.specs.Run.{Run, trailBehind, size, cellOf, listOf, pushFront, without, takeOut, addChecks, otherWatch, moved, scannedAction, action, onTrail, withWatches, withConflict, counted, perform, visit, readList, propagateFrom, firstCell, watchAll, fresh, assignUnit, assignUnits, openRun, decide, backtrack}
-use Rattle.run.specs.Calls.{Call, decision, backtrackBy, decideRefusal, backtrackRefusal, refusal, perform as performCall, step, stepAll, reference}
-use Rattle.session.specs.Layout.{valueNumber, levelNumber, nodeOf, watchLiteral, firstNode, behind, headNumber, linkNumber, watchNumber, encode, levelBefore, heldTrail, heldCells, chainFrom, heldLists, held}
-use Rattle.session.specs.Validation.{hasReason, isJustified, isWatching, isGuarded, watchesHold, isFixpoint, isConflict, isListed, isValid, passes}
-use Rattle.session.specs.Outcomes.{callRefusal, sessionBacktrackRefusal, backtrackNumbers, after as numbersAfter}
+use Rattle.run.specs.Run.{Run, trailBehind, size, cellOf, listOf, pushFront, without, takeOut, addChecks, otherWatch, moved, scannedAction, action, onTrail, withWatches, withConflict, counted, performAction, visit, readList, propagateFrom, firstCell, watchAll, fresh, assignUnit, assignUnits, openRun, decide, backtrack}
+use Rattle.run.specs.Calls.{Call, decision, backtrackBy, decideRefusal, backtrackRefusal, refusal, performCall, step, stepAll, reference}
+use Rattle.layout.specs.Layout.{valueNumber, levelNumber, nodeOf, watchLiteral, firstNode, behind, headNumber, linkNumber, watchNumber, encode, levelBefore, heldTrail, heldCells, chainFrom, heldLists, held}
+use Rattle.validation.specs.Validation.{hasReason, isJustified, isWatching, isGuarded, watchesHold, isFixpoint, isConflict, isListed, isValid, passes, callRefusal}
+use Rattle.session.specs.Outcomes.{sessionBacktrackRefusal, backtrackNumbers, overwritten}
 use Rattle.script.specs.Script.{scriptLines, numbered, backOf, lineOf}
 use Rattle.script.specs.Answers.{bytes, signed, listed, callWords, impliedLine, clauseLine, backLine, refusedLine, endLine}
 use Rattle.script.specs.Desk.{propagatedLine, unlessRefused, answerTo, stepOf, answersTo, outputFor, deskOutput}
@@ -53,8 +53,8 @@ unfoldable pub reversed : List Entry → List Entry → List Entry
 reversed done [] = done
 reversed done (e ∷ trail) = reversed (e ∷ done) trail
 
-abbrev pub trailOf : Run → List Entry
-trailOf run = reversed [] (run .trail)
+abbrev pub trailOldest : Run → List Entry
+trailOldest run = reversed [] (run .trail)
 
 -- the clauses `1` and `-1`
 abbrev pub opposed : Formula
@@ -75,18 +75,18 @@ listing =
 abbrev pub calls : List Call
 calls = decision (negative 1) ∷ decision (negative 2) ∷ backtrackBy 1 ∷ decision (negative 3) ∷ decision (positive 1) ∷ backtrackBy 3 ∷ []
 
-abbrev pub after : ℕ → Run
-after n = reference listing (take n calls)
+abbrev pub runAfter : ℕ → Run
+runAfter n = reference listing (take n calls)
 
 -- the listing's run with two decisions in force, as one that has made n backtracks
 abbrev pub worn : ℕ → Run
 worn n =
     record {
-      trail = after 2 .trail;
-      cells = after 2 .cells;
-      lists = after 2 .lists;
-      conflict = after 2 .conflict;
-      checks = after 2 .checks;
+      trail = runAfter 2 .trail;
+      cells = runAfter 2 .cells;
+      lists = runAfter 2 .lists;
+      conflict = runAfter 2 .conflict;
+      checks = runAfter 2 .checks;
       backtracks = n;
     }
 
@@ -146,29 +146,29 @@ pub record Table : Type 0 where
   pub opposed-backtrack : refusal opposed (backtrackBy 1) (openRun opposed) ≡ 16
   -- The listing: its book and the lines `-1`, `-2`, `b 1`, `-3`, `1`, `b 3`; the trail at the opening and after each accepted line.
   pub listing-text : readText (bytes "p cnf 4 3\n1 2 3 0\n-3 4 0\n-4 -2 1 0\n") ≡ accepted listing
-  pub listing-open : trailOf (after 0) ≡ []
-  pub listing-1 : trailOf (after 1) ≡ decided (negative 1) ∷ []
-  pub listing-2 : trailOf (after 2) ≡ decided (negative 1) ∷ decided (negative 2) ∷ implied (positive 3) ∷ implied (positive 4) ∷ []
-  pub listing-3 : trailOf (after 3) ≡ decided (negative 1) ∷ []
-  pub listing-4 : trailOf (after 4) ≡ decided (negative 1) ∷ decided (negative 3) ∷ implied (positive 2) ∷ implied (negative 4) ∷ []
+  pub listing-open : trailOldest (runAfter 0) ≡ []
+  pub listing-1 : trailOldest (runAfter 1) ≡ decided (negative 1) ∷ []
+  pub listing-2 : trailOldest (runAfter 2) ≡ decided (negative 1) ∷ decided (negative 2) ∷ implied (positive 3) ∷ implied (positive 4) ∷ []
+  pub listing-3 : trailOldest (runAfter 3) ≡ decided (negative 1) ∷ []
+  pub listing-4 : trailOldest (runAfter 4) ≡ decided (negative 1) ∷ decided (negative 3) ∷ implied (positive 2) ∷ implied (negative 4) ∷ []
   -- The whole output of the program on the listing.
   pub listing-output :
       deskOutput (bytes "p cnf 4 3\n1 2 3 0\n-3 4 0\n-4 -2 1 0\n") (bytes "-1\n-2\nb 1\n-3\n1\nb 3\n")
       ≡ bytes "open forced 0:\nchoose -1 forced 0:\nchoose -2 forced 2: 3 4\nback 1\nchoose -3 forced 2: 2 -4\nrefused 15\nrefused 16\nend choices 2 backs 1 checks 4\n"
   -- `refused 15`, `refused 16`; `end choices 2 backs 1 checks 4`.
-  pub listing-5 : refusal listing (decision (positive 1)) (after 4) ≡ 15
-  pub listing-6 : refusal listing (backtrackBy 3) (after 5) ≡ 16
-  pub end-conflict : after 6 .conflict ≡ 0
-  pub end-decisions : length (decisions (after 6 .trail)) ≡ 2
-  pub end-backtracks : after 6 .backtracks ≡ 1
-  pub end-checks : sum (after 6 .checks) ≡ 4
+  pub listing-5 : refusal listing (decision (positive 1)) (runAfter 4) ≡ 15
+  pub listing-6 : refusal listing (backtrackBy 3) (runAfter 5) ≡ 16
+  pub end-conflict : runAfter 6 .conflict ≡ 0
+  pub end-decisions : length (decisions (runAfter 6 .trail)) ≡ 2
+  pub end-backtracks : runAfter 6 .backtracks ≡ 1
+  pub end-checks : sum (runAfter 6 .checks) ≡ 4
   -- Rule 1 above has 2 checks before `b 1` and 1 after; its ceiling is 3 each time.
-  pub clause-1-before : checksOf (after 2) 0 - countBefore listing 0 (take 2 calls) ≡ 2
-  pub clause-1-after : checksOf (after 6) 0 - countBefore listing 0 calls ≡ 1
+  pub clause-1-before : checksOf (runAfter 2) 0 - countBefore listing 0 (take 2 calls) ≡ 2
+  pub clause-1-after : checksOf (runAfter 6) 0 - countBefore listing 0 calls ≡ 1
   pub clause-1-ceiling : ceiling (size listing 0) ≡ 3
   -- Rule 3 has 1, rule 2 none.
-  pub clause-3 : checksOf (after 6) 2 ≡ 1
-  pub clause-2 : checksOf (after 6) 1 ≡ 0
+  pub clause-3 : checksOf (runAfter 6) 2 ≡ 1
+  pub clause-2 : checksOf (runAfter 6) 1 ≡ 0
   -- In a passing session with two choices in force that records 999,999 take-backs, one more, of 1, is taken, the next of 1 gives 17.
   pub worn-decisions : length (decisions (worn 999999 .trail)) ≡ 2
   pub worn-taken : refusal listing (backtrackBy 1) (worn 999999) ≡ 0
@@ -183,19 +183,19 @@ pub record Table : Type 0 where
   pub order-moved : listOf (reference sharing (decision (negative 1) ∷ []) .lists) (positive 3) ≡ 0 ∷ 2 ∷ 1 ∷ []
   pub order-left : listOf (reference sharing (decision (negative 1) ∷ []) .lists) (positive 1) ≡ []
   pub pair-moved : cellOf (reference sharing (decision (negative 1) ∷ [])) 0 ≡ record { first = 2; second = 1; pointer = 2 }
-  pub order-read : trailOf (reference crossed (decision (negative 1) ∷ [])) ≡ decided (negative 1) ∷ implied (positive 5) ∷ implied (positive 2) ∷ []
+  pub order-read : trailOldest (reference crossed (decision (negative 1) ∷ [])) ≡ decided (negative 1) ∷ implied (positive 5) ∷ implied (positive 2) ∷ []
   pub order-kept : listOf (reference crossed (decision (negative 1) ∷ []) .lists) (positive 1) ≡ 2 ∷ 0 ∷ []
   -- Not marked: the faults that a desk would not notice. The scan goes on behind the pointer; the pointer stays over a take-back; a watch
   -- does not move to a literal that is false and not yet handled. And a contradiction ends propagation.
   pub scan-behind-pointer : checksOf (reference circled (decision (negative 1) ∷ decision (negative 3) ∷ [])) 0 ≡ 2
   pub pointer-stays : cellOf (reference circled (decision (negative 1) ∷ backtrackBy 1 ∷ [])) 0 ≡ record { first = 2; second = 1; pointer = 2 }
-  pub unhandled-is-false : trailOf (reference queued (decision (negative 1) ∷ [])) ≡ decided (negative 1) ∷ implied (negative 4) ∷ implied (positive 3) ∷ []
+  pub unhandled-is-false : trailOldest (reference queued (decision (negative 1) ∷ [])) ≡ decided (negative 1) ∷ implied (negative 4) ∷ implied (positive 3) ∷ []
   pub unhandled-checks : checksOf (reference queued (decision (negative 1) ∷ [])) 0 ≡ 1
-  pub conflict-ends-trail : trailOf (reference torn (decision (negative 1) ∷ [])) ≡ decided (negative 1) ∷ implied (negative 2) ∷ []
+  pub conflict-ends-trail : trailOldest (reference torn (decision (negative 1) ∷ [])) ≡ decided (negative 1) ∷ implied (negative 2) ∷ []
   pub conflict-ends-named : reference torn (decision (negative 1) ∷ []) .conflict ≡ 2
 
 pub table : Table
-unfolding scriptLines numbered backOf lineOf signed listed callWords impliedLine clauseLine backLine refusedLine endLine propagatedLine unlessRefused answerTo stepOf answersTo outputFor deskOutput trailBehind sum any distinct times values upTo soundClause sound starts numbersOf clausesFrom rising wellFormed valueNumber levelNumber nodeOf watchLiteral firstNode behind headNumber linkNumber watchNumber encode levelBefore heldTrail heldCells chainFrom heldLists held hasReason isJustified isWatching isGuarded watchesHold isFixpoint isConflict isListed isValid passes callRefusal sessionBacktrackRefusal backtrackNumbers numbersAfter all keep flat empty member same begins literalWithin blank lineEnd extend split kept linesOf filled wordsOf decimal isDigit unsigned unsignedToken negativeToken tokenOf headed headerIn headerOf fault opened closed written notNumber overVariables wrongLength repeated surplus unfinished overLiterals faultsAt faultsFrom outside bodyOf faultsUnder faultsOf before earlier least onto clausesIn formulaUnder formulaIn judged readText digits opposite place literalAt isTrue decisions level lowered cut watched next oneMore scanFrom scan pushFront without takeOut addChecks otherWatch moved scannedAction action onTrail withWatches withConflict counted perform visit readList propagateFrom firstCell watchAll fresh assignUnit assignUnits openRun decide backtrack decideRefusal backtrackRefusal refusal performCall step stepAll reference countAtLatest bytes counting positives reversed
+unfolding scriptLines numbered backOf lineOf signed listed callWords impliedLine clauseLine backLine refusedLine endLine propagatedLine unlessRefused answerTo stepOf answersTo outputFor deskOutput trailBehind sum any distinct times values upTo soundClause sound starts numbersOf clausesFrom rising wellFormed valueNumber levelNumber nodeOf watchLiteral firstNode behind headNumber linkNumber watchNumber encode levelBefore heldTrail heldCells chainFrom heldLists held hasReason isJustified isWatching isGuarded watchesHold isFixpoint isConflict isListed isValid passes callRefusal sessionBacktrackRefusal backtrackNumbers overwritten all keep flat empty member same begins literalWithin blank lineEnd extend split notSkipped linesOf filled wordsOf decimal isDigit unsigned unsignedToken negativeToken tokenOf headed headerIn headerOf fault opened closed written notNumber overVariables wrongLength repeated surplus unfinished overLiterals faultsAt faultsFrom outside bodyOf faultsUnder faultsOf before earlier least onto clausesIn formulaUnder formulaIn judged readText digits opposite place literalAt isTrue decisions level lowered cut watched next oneMore scanFrom scan pushFront without takeOut addChecks otherWatch moved scannedAction action onTrail withWatches withConflict counted performAction visit readList propagateFrom firstCell watchAll fresh assignUnit assignUnits openRun decide backtrack decideRefusal backtrackRefusal refusal performCall step stepAll reference countAtLatest bytes counting positives reversed
 table =
     record {
       literals-255 = refl;

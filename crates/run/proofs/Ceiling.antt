@@ -27,18 +27,18 @@ unfolding fresh
 fresh-checks formula c = getD-alike (length (formula .clauses)) c 0
 
 -- the checks of the periods before are within as many ceilings as there were backtracks
-record Within (formula : Formula) (c before : ℕ) (run : Run) : Type 0 where
+record WithinCeiling (formula : Formula) (c before : ℕ) (run : Run) : Type 0 where
   period : InPeriod formula c before run
   periods-before : before ≤ ceiling (size formula c) * run .backtracks
 
 begins-within : (formula : Formula) (c : ℕ) (run : Run) → cellOf run c .pointer < size formula c
-    → checksOf run c ≤ ceiling (size formula c) * run .backtracks → Within formula c (checksOf run c) run
+    → checksOf run c ≤ ceiling (size formula c) * run .backtracks → WithinCeiling formula c (checksOf run c) run
 begins-within formula c run pointer few =
     record { period = spends (spending-begins (clauseOf formula c) (run .trail) (cellOf run c) (checksOf run c) pointer); periods-before = few }
 
-within-kept : (formula : Formula) → sound formula ≡ true → (c : ℕ) → 2 ≤ size formula c → Keeps formula c (Within formula c)
+within-ceiling-kept : (formula : Formula) → sound formula ≡ true → (c : ℕ) → 2 ≤ size formula c → Keeps formula c (WithinCeiling formula c)
 unfolding fresh onTrail withConflict backtrack
-within-kept formula ok c many =
+within-ceiling-kept formula ok c many =
     record {
       at-fresh =
           rw (fresh-checks formula c) at
@@ -59,8 +59,8 @@ within-kept formula ok c many =
     }
 
 reference-within : (formula : Formula) → sound formula ≡ true → (calls : List Call) (c : ℕ) → 2 ≤ size formula c
-    → Within formula c (countBefore formula c calls) (reference formula calls)
-reference-within formula ok calls c many = reference-keeps formula ok c (Within formula c) (within-kept formula ok c many) calls
+    → WithinCeiling formula c (countBefore formula c calls) (reference formula calls)
+reference-within formula ok calls c many = reference-keeps formula ok c (WithinCeiling formula c) (within-ceiling-kept formula ok c many) calls
 
 pub ceiling-in-period : (formula : Formula) → sound formula ≡ true → (calls : List Call) (c : ℕ) → 2 ≤ size formula c
     → checksOf (reference formula calls) c ≤ countBefore formula c calls + ceiling (size formula c)

@@ -19,7 +19,7 @@ use Rattle.run.proofs.Circle.{steps, steps-add, steps-after, full-circl
 use Rattle.run.proofs.ScanLaws.{passed, Reached, first-watched, second-watched, watched-passed, false-passed, scan-found, scan-reaches, scan-checks, pointer-within}
 use Rattle.run.proofs.Trails.{place-true, place-new, true-grows}
 use Rattle.run.proofs.WatchLists.{Order, forth, back, Sides}
-use Rattle.run.proofs.Visits.{Case, staying, moving, implying, conflicting, action-case}
+use Rattle.run.proofs.Actions.{Case, staying, moving, implying, conflicting, action-case}
 
 abbrev pub firstOf : List ℕ → Cell → ℕ
 firstOf clause cell = getD clause (cell .first) 0
@@ -28,7 +28,7 @@ abbrev pub secondOf : List ℕ → Cell → ℕ
 secondOf clause cell = getD clause (cell .second) 0
 
 -- a clause that is visited in the list of q: one of its watches is q, which is false
-pub record Visited (trail : List Entry) (clause : List ℕ) (cell : Cell) (q : ℕ) : Type 0 where
+pub record VisitedClause (trail : List Entry) (clause : List ℕ) (cell : Cell) (q : ℕ) : Type 0 where
   pub watching : Watching (length clause) cell
   pub sides : Sides clause cell q
   pub q-false : isFalse trail q ≡ true
@@ -88,7 +88,7 @@ newest-true : (e : Entry) (trail : List Entry) → isTrue (e ∷ trail) (e .lite
 newest-true e trail = place-true (e ∷ trail) (e .literal) (omega (arith, place-new e trail))
 
 -- where a watch is true, the other one is: the clause is not scanned
-other-true : (trail : List Entry) (clause : List ℕ) (cell : Cell) (q : ℕ) → Visited trail clause cell q
+other-true : (trail : List Entry) (clause : List ℕ) (cell : Cell) (q : ℕ) → VisitedClause trail clause cell q
     → (isTrue trail (firstOf clause cell) ≡ true) ⊎ (isTrue trail (secondOf clause cell) ≡ true) → isTrue trail (otherWatch clause cell q) ≡ true
 other-true trail clause cell q v t = go (v .sides .order) t
   where
@@ -131,7 +131,7 @@ watched-cases cell position h =
     ⊎-elim (λ e. inl (eqb-true position (cell .first) e)) (λ e. inr (eqb-true position (cell .second) e))
     (either (eqb position (cell .first)) (eqb position (cell .second)) h)
 
-passed-moved : (trail : List Entry) (clause : List ℕ) (cell : Cell) (q to position : ℕ) → Visited trail clause cell q
+passed-moved : (trail : List Entry) (clause : List ℕ) (cell : Cell) (q to position : ℕ) → VisitedClause trail clause cell q
     → passed trail clause cell position ≡ true → passed trail clause (moved clause cell q to) position ≡ true
 passed-moved trail clause cell q to position v h = by-cases (either (watched cell position) (isFalse trail (getD clause position 0)) h)
   where
@@ -199,7 +199,7 @@ Spent clause before trail cell count q (implies made) =
     → Spending clause before (record { literal = otherWatch clause cell q; decided = false } ∷ trail) cell more
 Spent clause before trail cell count q (conflicts made) = (more : ℕ) → more ≤ count + made → more ≤ before + ceiling (length clause)
 
-module _ (clause : List ℕ) (before : ℕ) (trail : List Entry) (cell : Cell) (count q : ℕ) (v : Visited trail clause cell q) where
+module _ (clause : List ℕ) (before : ℕ) (trail : List Entry) (cell : Cell) (count q : ℕ) (v : VisitedClause trail clause cell q) where
   -- a clause that is scanned has seen no failed scan in this period
   still-rolling : isTrue trail (otherWatch clause cell q) ≡ false → Spending clause before trail cell count
       → (start : ℕ) × (distance : ℕ) × Rolled trail clause cell start distance (cell .pointer) × (count ≤ before + distance)

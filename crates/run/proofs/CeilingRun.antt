@@ -12,12 +12,12 @@ use borrow.Author.Tests.{eqb-true, eqb-false, ne-eqb}
 use Rattle.base.proofs.Bools.{never}
 use Rattle.base.proofs.Lists.{getD-set-cases}
 use Rattle.book.specs.Formula.{Formula}
-use Rattle.run.specs.Run.{Run, clauseOf, size, noCell, cellOf, maxCount, addChecks, moved, Action, stays, moves, implies, conflicts, action, onTrail, withWatches, withConflict, counted, perform, visit, inConflict}
+use Rattle.run.specs.Run.{Run, clauseOf, size, noCell, cellOf, maxCount, addChecks, moved, Action, stays, moves, implies, conflicts, action, onTrail, withWatches, withConflict, counted, performAction, visit, inConflict}
 use Rattle.run.specs.Ceiling.{checksOf, ceiling}
+use Rattle.run.specs.Progress.{Structure}
 use Rattle.run.proofs.Clauses.{clause-exists}
-use Rattle.run.proofs.Propagation.{Structure}
 use Rattle.run.proofs.Visits.{Seen}
-use Rattle.run.proofs.CeilingClause.{Visited, Spending, Spent, spending-within, spending-stays, visit-spends}
+use Rattle.run.proofs.CeilingClause.{VisitedClause, Spending, Spent, spending-within, spending-stays, visit-spends}
 
 -- one count grows by the checks made, or by less where it saturates; the others stay
 added-at-most : (checks : List ℕ) (c made : ℕ) → getD (addChecks checks c made) c 0 ≤ getD checks c 0 + made
@@ -70,8 +70,8 @@ period-conflict formula c before d run h p = stopped (rw (ne-eqb (suc d) 0 (λ g
 
 -- the clause itself is visited
 visited-itself : (formula : Formula) (c before q : ℕ) (run : Run) → c < length (run .cells) → (a : Action)
-    → Spent (clauseOf formula c) before (run .trail) (cellOf run c) (checksOf run c) q a → InPeriod formula c before (perform formula q c a run)
-unfolding perform counted withWatches onTrail withConflict
+    → Spent (clauseOf formula c) before (run .trail) (cellOf run c) (checksOf run c) q a → InPeriod formula c before (performAction formula q c a run)
+unfolding performAction counted withWatches onTrail withConflict
 visited-itself formula c before q run h stays s = spends s
 visited-itself formula c before q run h (moves position made) s =
     spends
@@ -84,8 +84,8 @@ visited-itself formula c before q run h (conflicts made) s =
 
 -- another clause is visited
 visited-another : (formula : Formula) (c d before q : ℕ) (run : Run) → (c ≡ d → ⊥) → (a : Action)
-    → Spending (clauseOf formula c) before (run .trail) (cellOf run c) (checksOf run c) → InPeriod formula c before (perform formula q d a run)
-unfolding perform counted withWatches onTrail withConflict
+    → Spending (clauseOf formula c) before (run .trail) (cellOf run c) (checksOf run c) → InPeriod formula c before (performAction formula q d a run)
+unfolding performAction counted withWatches onTrail withConflict
 visited-another formula c d before q run other stays s = spends s
 visited-another formula c d before q run other (moves position made) s =
     spends
@@ -104,7 +104,7 @@ unfolding visit
 period-visit formula c before q d run quiet structure v (stopped t few) = absurd (never t quiet)
 period-visit formula c before q d run quiet structure v (spends s) = go (eqb c d) refl
   where
-    visited : Visited (run .trail) (clauseOf formula d) (cellOf run d) q
+    visited : VisitedClause (run .trail) (clauseOf formula d) (cellOf run d) q
     visited = record { watching = v .watching; sides = v .sides; q-false = v .q-false; q-untrue = v .q-untrue }
 
     exists : d < length (run .cells)
@@ -124,10 +124,10 @@ period-visit formula c before q d run quiet structure v (spends s) = go (eqb c d
 
 -- a visit counts no backtrack, and the checks only of the clause that is visited
 pub visit-backtracks : (formula : Formula) (q d : ℕ) (run : Run) → visit formula q d run .backtracks ≡ run .backtracks
-unfolding visit perform counted withWatches onTrail withConflict
+unfolding visit performAction counted withWatches onTrail withConflict
 visit-backtracks formula q d run = go (action (run .trail) (clauseOf formula d) (cellOf run d) q)
   where
-    go : (a : Action) → perform formula q d a run .backtracks ≡ run .backtracks
+    go : (a : Action) → performAction formula q d a run .backtracks ≡ run .backtracks
     go stays = refl
     go (moves position made) = refl
     go (implies made) = refl
@@ -135,10 +135,10 @@ visit-backtracks formula q d run = go (action (run .trail) (clauseOf formula d) 
 
 pub visit-checks : (formula : Formula) (q d : ℕ) (run : Run) (P : List ℕ → Type 0) → P (run .checks)
     → ((made : ℕ) → P (addChecks (run .checks) d made)) → P (visit formula q d run .checks)
-unfolding visit perform counted withWatches onTrail withConflict
+unfolding visit performAction counted withWatches onTrail withConflict
 visit-checks formula q d run P same added = go (action (run .trail) (clauseOf formula d) (cellOf run d) q)
   where
-    go : (a : Action) → P (perform formula q d a run .checks)
+    go : (a : Action) → P (performAction formula q d a run .checks)
     go stays = same
     go (moves position made) = added made
     go (implies made) = added made

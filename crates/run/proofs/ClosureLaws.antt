@@ -15,18 +15,18 @@ use Rattle.book.specs.Formula.{Formula, sound}
 use Rattle.run.specs.Trail.{Entry, opposite, place, isTrue, isFalse, decisions}
 use Rattle.run.specs.Run.{Run, clauseOf, size, cellOf, inConflict}
 use Rattle.run.specs.Valid.{Justified, WatchesHold, firstWatch, secondWatch, Watching, Valid}
-use Rattle.run.specs.Closure.{Closure, Closure.decided as in-force, Closure.implied as by-clause, UnitClosed, Holds, BothWays}
+use Rattle.run.specs.Closure.{Closure, Closure.decided as in-force, Closure.implied as by-clause, UnitClosed, Contains, BothWays}
 use Rattle.run.proofs.Trails.{PlaceCase, true-place, place-true, place-untrue, place-new, place-cases, true-grows, consistent}
 use Rattle.run.proofs.Clauses.{clause-nonempty}
 use Rattle.run.proofs.WatchLists.{literals-differ}
 
 -- the closure is contained in every set that holds the decisions and is closed under the unit rule
-pub closure-within : {formula : Formula} {ds : List ℕ} (S : ℕ → Type 0) → Holds ds S → UnitClosed formula S → {l : ℕ}
+pub closure-within : {formula : Formula} {ds : List ℕ} (S : ℕ → Type 0) → Contains ds S → UnitClosed formula S → {l : ℕ}
     → Closure formula ds l → S l
 closure-within S holds closed (in-force h) = holds _ h
 closure-within S holds closed (by-clause c h others) = closed c _ h (λ m k n. closure-within S holds closed (others m k n))
 
-pub closure-holds : (formula : Formula) (ds : List ℕ) → Holds ds (Closure formula ds)
+pub closure-holds : (formula : Formula) (ds : List ℕ) → Contains ds (Closure formula ds)
 closure-holds formula ds l h = in-force h
 
 pub closure-closed : (formula : Formula) (ds : List ℕ) → UnitClosed formula (Closure formula ds)
@@ -73,7 +73,7 @@ trail-closure formula (e ∷ trail) j l t =
     go (inr p) older = older l (place-true trail l (rw (p .1) at (true-place (e ∷ trail) l t)))
 
 -- the decisions in force are true
-pub decisions-true : (trail : List Entry) → Holds (decisions trail) (λ (l : ℕ). isTrue trail l ≡ true)
+pub decisions-true : (trail : List Entry) → Contains (decisions trail) (λ (l : ℕ). isTrue trail l ≡ true)
 unfolding decisions member
 decisions-true [] l h = absurd (never h refl)
 decisions-true (e ∷ trail) l h = go (e .decided) h (λ k. true-grows e trail l (decisions-true trail l k))

@@ -9,7 +9,7 @@ use lib.ListN.{length}
 use Rattle.base.specs.Lists.{all}
 use Rattle.book.specs.Formula.{Formula}
 use Rattle.run.specs.Trail.{Entry}
-use Rattle.run.specs.Run.{Run, clauseOf, cellOf, Action, stays, moves, implies, conflicts, otherWatch, action, onTrail, withWatches, withConflict, counted, perform, visit, inConflict, readList, propagateFrom}
+use Rattle.run.specs.Run.{Run, clauseOf, cellOf, Action, stays, moves, implies, conflicts, otherWatch, action, onTrail, withWatches, withConflict, counted, performAction, visit, inConflict, readList, propagateFrom}
 use Rattle.run.proofs.Inductions.{read-induction, readNext, nextRead}
 
 -- the trail `old` with some implied literals more
@@ -27,10 +27,10 @@ grown-by (more l g) =
 
 pub visit-grows : (formula : Formula) (q c : ℕ) (old : List Entry) (run : Run) → Grown old (run .trail)
     → Grown old (visit formula q c run .trail)
-unfolding visit perform counted withWatches withConflict onTrail
+unfolding visit performAction counted withWatches withConflict onTrail
 visit-grows formula q c old run g = go (action (run .trail) (clauseOf formula c) (cellOf run c) q)
   where
-    go : (a : Action) → Grown old (perform formula q c a run .trail)
+    go : (a : Action) → Grown old (performAction formula q c a run .trail)
     go stays = g
     go (moves position made) = g
     go (implies made) = more (otherWatch (clauseOf formula c) (cellOf run c) q) g

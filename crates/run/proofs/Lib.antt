@@ -1,13 +1,16 @@
 -- The laws of `run` that proofs cite.
 pub mod Circle
 pub mod ScanLaws
+pub mod Opposites
 pub mod Trails
+pub mod Levels
 pub mod Clauses
 pub mod Order
 pub mod WatchLists
 pub mod Inductions
 pub mod Growth
 pub mod Propagation
+pub mod Actions
 pub mod Visits
 pub mod Validity
 pub mod Opening

@@ -16,14 +16,14 @@ use Rattle.base.proofs.Members.{position, member-at, times-same, times-other}
 use Rattle.book.specs.Formula.{Formula, sound}
 use Rattle.run.specs.Trail.{Entry, opposite, place, isTrue, isFalse, decisions}
 use Rattle.run.specs.Scan.{Cell}
-use Rattle.run.specs.Run.{Run, clauseOf, size, noCell, listOf, pushFront, onTrail, withConflict, inConflict, firstCell, watchAll, fresh, assignUnit, assignUnits}
+use Rattle.run.specs.Run.{Run, clauseOf, size, noCell, listOf, pushFront, onTrail, withConflict, inConflict, firstCell, watchAll, fresh, assignUnit, assignUnits, cellAt}
 use Rattle.run.specs.Valid.{one, Reason}
-use Rattle.run.proofs.Trails.{true-place, untrue-place, place-new, level-within, undecided-lowered, decided-count}
+use Rattle.run.specs.Progress.{Opened, secondLiteral, firstLiteral, Watched, among, Going, Ended}
+use Rattle.run.proofs.Trails.{true-place, untrue-place, place-new}
 use Rattle.run.proofs.Order.{pushed-first, pushed-elsewhere, pushed-length}
 use Rattle.run.proofs.Clauses.{clause-exists, literal-within, literal-listed}
-use Rattle.run.proofs.WatchLists.{secondLiteral, firstLiteral, Watched, cellAt, among}
-use Rattle.run.proofs.Propagation.{old-stays, Structure, structure-valid, Going, Ended, quiet-out}
-use Rattle.run.proofs.Visits.{trailed-push}
+use Rattle.run.proofs.Propagation.{old-stays, structure-valid, quiet-out, trailed-push}
+use Rattle.run.proofs.Levels.{level-within, undecided-lowered, decided-count}
 
 -- how often clause d stands in the list of l after clause c was put at the front of the list of a
 push-times : (lists : List (List ℕ)) (a c l d : ℕ) → a < length lists
@@ -46,16 +46,16 @@ standing-from : ℕ → List (List ℕ) → ℕ → ℕ → ℕ
 standing-from c [] l d = 0
 standing-from c (clause ∷ clauses) l d = cond (eqb d c) (first-stands l clause) 0 + standing-from (suc c) clauses l d
 
-standing-none : (c : ℕ) (clauses : List (List ℕ)) (l d : ℕ) → d < c → standing-from c clauses l d ≡ 0
+standing-before : (c : ℕ) (clauses : List (List ℕ)) (l d : ℕ) → d < c → standing-from c clauses l d ≡ 0
 unfolding standing-from
-standing-none c [] l d h = refl
-standing-none c (clause ∷ clauses) l d h = rw (ne-eqb d c (λ e. omega arith), standing-none (suc c) clauses l d (omega arith))
+standing-before c [] l d h = refl
+standing-before c (clause ∷ clauses) l d h = rw (ne-eqb d c (λ e. omega arith), standing-before (suc c) clauses l d (omega arith))
 
 standing-at : (c : ℕ) (clauses : List (List ℕ)) (l i : ℕ) → standing-from c clauses l (c + i) ≡ first-stands l (getD clauses i [])
 unfolding standing-from
 standing-at c [] l i = refl
 standing-at c (clause ∷ clauses) l zero =
-    rw (eq-eqb (c + zero) c (add-zero c), standing-none (suc c) clauses l (c + zero) (omega arith)) (omega arith)
+    rw (eq-eqb (c + zero) c (add-zero c), standing-before (suc c) clauses l (c + zero) (omega arith)) (omega arith)
 standing-at c (clause ∷ clauses) l (suc i) =
     let later : c + suc i ≡ suc c + i = omega arith in
     rw (ne-eqb (c + suc i) c (λ e. omega arith), later, standing-at (suc c) clauses l i) (omega arith)
@@ -171,13 +171,6 @@ module _ (formula : Formula) (s : sound formula ≡ true) where
           ≡ cond b (among l (firstLiteral formula cells c) (secondLiteral formula cells c)) 0
       same-count l c true e = rw (cell-first c, first-big (clauseOf formula c) (leb-true 2 (size formula c) e))
       same-count l c false e = refl
-
--- The opening after the clauses before c: their one-literal clauses are true, and nothing is decided.
-pub record Opened (formula : Formula) (c : ℕ) (run : Run) : Type 0 where
-  pub structure : Structure formula run
-  pub quiet : run .conflict ≡ 0
-  pub undecided : length (decisions (run .trail)) ≡ 0
-  pub units-on : (d : ℕ) → d < c → size formula d ≡ 1 → 0 < place (run .trail) (getD (clauseOf formula d) 0 0)
 
 pub fresh-opened : (formula : Formula) → sound formula ≡ true → Opened formula 0 (fresh formula)
 unfolding fresh isTrue place decisions distinct
@@ -335,7 +328,7 @@ opened-going {formula} {run} o =
           record {
             units-on = λ c u. o .units-on c (clause-exists formula c (omega arith)) u;
             units-level = λ c u. omega (arith, o .undecided, level-within (run .trail) (getD (clauseOf formula c) 0 0));
-            kept = λ c two. record { forth = λ p h. absurd (omega arith); back = λ p h. absurd (omega arith) };
+            guarded = λ c two. record { forth = λ p h. absurd (omega arith); back = λ p h. absurd (omega arith) };
             low = omega (arith, undecided-lowered (run .trail) (o .undecided));
           };
     }

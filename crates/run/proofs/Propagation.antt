@@ -1,43 +1,30 @@
 -- The invariants of propagation: what holds when some trail literals are handled, and what that gives for a valid run.
-use Prim.Native.Nat.{ℕ, suc, _≤_, _<_}
+use Prim.Native.Nat.{ℕ, suc, _≤_, _<_, _+_, min}
 use native.Mathlib.Omega.{arith}
-use mathlib.Core.Bool.{true, false}
+use mathlib.Core.Bool.{true, false, not}
 use mathlib.Core.List.{List, _∷_}
-use mathlib.Core.Logic.{_⊎_, inl, inr}
-use mathlib.Core.Path.{_≡_, sym, _∙_}
+use mathlib.Core.Logic.{_⊎_, inl, inr, ⊎-elim}
+use mathlib.Core.Path.{_≡_, sym, _∙_, ap}
 use borrow.Author.Tests.{eq-eqb}
-use lib.ListN.{length, getD}
-use Rattle.base.specs.Lists.{member, distinct, times}
-use Rattle.base.proofs.Bools.{decided}
+use lib.ListN.{length, getD, length-set}
+use Rattle.base.specs.Lists.{member, distinct}
+use Rattle.base.proofs.Bools.{decided, both}
+use Rattle.base.proofs.Lists.{getD-set-cases}
 use Rattle.book.specs.Formula.{Formula, literalWithin}
-use Rattle.run.specs.Trail.{Entry, opposite, place, isTrue, isFalse, decisions, level, lowered}
+use Rattle.run.specs.Trail.{Entry, opposite, place, isTrue, isFalse, decisions, level, lowered, variablesOn}
 use Rattle.run.specs.Scan.{Cell}
-use Rattle.run.specs.Run.{Run, clauseOf, size, listOf, maxCount, inConflict}
-use Rattle.run.specs.Calls.{maxBacktracks}
-use Rattle.run.specs.Valid.{Justified, Guarded, WatchesHold, Fixpoint, Valid}
-use Rattle.run.proofs.Trails.{PlaceCase, true-place, place-true, untrue-place, place-untrue, place-cases, place-within, variables, consistent, newer, whole, suffix-length, suffix-place, suffix-on, suffix-level, lowered-suffix, lower-level, below-top}
-use Rattle.run.proofs.WatchLists.{secondLiteral, firstLiteral, Watched}
+use Rattle.run.specs.Run.{Run, clauseOf, size, maxCount, inConflict, addChecks}
+use Rattle.run.specs.Valid.{Guarded, WatchesHold, Fixpoint, Valid, Reason}
+use Rattle.run.specs.Progress.{Guard, BothGuarded, Pending, Trailed, Counted, Structure, Going}
+use Rattle.run.proofs.Trails.{PlaceCase, true-place, place-true, untrue-place, place-untrue, place-cases, place-within, consistent, off-trail}
+use Rattle.run.proofs.Levels.{newer, whole, suffix-length, suffix-place, suffix-on, suffix-level, lowered-suffix, lower-level, below-top}
 
--- The watch condition as an implication: where watch a is false and handled (among the first h of the trail), watch b is true at a level
--- not above.
-abbrev pub Guard : List Entry → ℕ → ℕ → ℕ → Type 0
-Guard trail h a b =
-    0 < place trail (opposite a) → place trail (opposite a) ≤ h → (0 < place trail b) × (level trail b ≤ level trail (opposite a))
-
-pub record Kept (trail : List Entry) (h a b : ℕ) : Type 0 where
-  pub forth : Guard trail h a b
-  pub back : Guard trail h b a
-
--- of the watches of clause c
-abbrev pub KeptAt : Formula → List Cell → List Entry → ℕ → ℕ → Type 0
-KeptAt formula cells trail h c = Kept trail h (firstLiteral formula cells c) (secondLiteral formula cells c)
-
-pub kept-swap : {trail : List Entry} {h a b : ℕ} → Kept trail h a b → Kept trail h b a
-kept-swap k = record { forth = k .back; back = k .forth }
+pub guarded-swap : {trail : List Entry} {h a b : ℕ} → BothGuarded trail h a b → BothGuarded trail h b a
+guarded-swap k = record { forth = k .back; back = k .forth }
 
 -- with all literals handled it is the condition of a valid run
-pub kept-holds : {trail : List Entry} {h a b : ℕ} → Kept trail h a b → length trail ≤ h → WatchesHold trail a b
-kept-holds {trail} {h} {a} {b} k all = go (decided (isFalse trail a)) (decided (isFalse trail b))
+pub guarded-holds : {trail : List Entry} {h a b : ℕ} → BothGuarded trail h a b → length trail ≤ h → WatchesHold trail a b
+guarded-holds {trail} {h} {a} {b} k all = go (decided (isFalse trail a)) (decided (isFalse trail b))
   where
     guarded : (x y : ℕ) → Guard trail h x y → isFalse trail x ≡ true → Guarded trail x y
     guarded x y g f =
@@ -49,8 +36,8 @@ kept-holds {trail} {h} {a} {b} k all = go (decided (isFalse trail a)) (decided (
     go (inr f) (inl s) = inr (inr (guarded b a (k .back) s))
     go (inr f) (inr s) = inl (f, s)
 
-pub holds-kept : {trail : List Entry} {a b : ℕ} → distinct (variables trail) ≡ true → WatchesHold trail a b → (h : ℕ) → Kept trail h a b
-holds-kept {trail} {a} {b} d w h = go w
+pub holds-guarded : {trail : List Entry} {a b : ℕ} → distinct (variablesOn trail) ≡ true → WatchesHold trail a b → (h : ℕ) → BothGuarded trail h a b
+holds-guarded {trail} {a} {b} d w h = go w
   where
     unfalse : (x y : ℕ) → isFalse trail x ≡ false → Guard trail h x y
     unfalse x y f p q = absurd (let z = untrue-place trail (opposite x) f in omega arith)
@@ -61,7 +48,7 @@ holds-kept {trail} {a} {b} d w h = go w
     guard : (x y : ℕ) → Guarded trail x y → Guard trail h x y
     guard x y g p q = (true-place trail y (g .1), g .2)
 
-    go : WatchesHold trail a b → Kept trail h a b
+    go : WatchesHold trail a b → BothGuarded trail h a b
     go (inl n) = record { forth = unfalse a b (n .0); back = unfalse b a (n .1) }
     go (inr (inl g)) = record { forth = guard a b g; back = unfalse b a (true-unfalse b (g .1)) }
     go (inr (inr g)) = record { forth = unfalse a b (true-unfalse a (g .1)); back = guard b a g }
@@ -76,9 +63,9 @@ old-stays e trail new l h = go (place-cases e trail l)
     go (inl p) = absurd (let z : place trail l ≡ 0 = rw (← p .0) new in omega arith)
     go (inr p) = (p .1, sym (suffix-level (newer e whole) l (let w = place-within trail l in omega arith)))
 
-pub kept-push : {trail : List Entry} {h a b : ℕ} (e : Entry) → place trail (e .literal) ≡ 0 → h ≤ length trail → Kept trail h a b
-    → Kept (e ∷ trail) h a b
-kept-push {trail} {h} {a} {b} e new within k = record { forth = guard a b (k .forth); back = guard b a (k .back) }
+pub guarded-push : {trail : List Entry} {h a b : ℕ} (e : Entry) → place trail (e .literal) ≡ 0 → h ≤ length trail → BothGuarded trail h a b
+    → BothGuarded (e ∷ trail) h a b
+guarded-push {trail} {h} {a} {b} e new within k = record { forth = guard a b (k .forth); back = guard b a (k .back) }
   where
     guard : (x y : ℕ) → Guard trail h x y → Guard (e ∷ trail) h x y
     guard x y g p q =
@@ -90,10 +77,10 @@ kept-push {trail} {h} {a} {b} e new within k = record { forth = guard a b (k .fo
         (omega arith, omega arith)
 
 -- the trail without its top level keeps the condition, if the handled literals reach that far
-pub kept-lowered : {trail : List Entry} {h a b : ℕ} → distinct (variables trail) ≡ true → 0 < length (decisions trail)
+pub guarded-lowered : {trail : List Entry} {h a b : ℕ} → distinct (variablesOn trail) ≡ true → 0 < length (decisions trail)
     → length (lowered trail) ≤ h
-    → Kept trail h a b → (h′ : ℕ) → Kept (lowered trail) h′ a b
-kept-lowered {trail} {h} {a} {b} d some low k h′ = record { forth = guard a b (k .forth); back = guard b a (k .back) }
+    → BothGuarded trail h a b → (h′ : ℕ) → BothGuarded (lowered trail) h′ a b
+guarded-lowered {trail} {h} {a} {b} d some low k h′ = record { forth = guard a b (k .forth); back = guard b a (k .back) }
   where
     guard : (x y : ℕ) → Guard trail h x y → Guard (lowered trail) h′ x y
     guard x y g p q =
@@ -108,14 +95,6 @@ kept-lowered {trail} {h} {a} {b} d some low k h′ = record { forth = guard a b 
         = suffix-level (lowered-suffix trail) (opposite x) (omega arith) in
         (omega arith, omega arith)
 
--- What holds when the first `handled` trail literals are handled: of clauses of one literal, of watches, and of the top level.
-pub record Pending (formula : Formula) (cells : List Cell) (trail : List Entry) (handled : ℕ) : Type 0 where
-  pub units-on : (c : ℕ) → size formula c ≡ 1 → 0 < place trail (getD (clauseOf formula c) 0 0)
-  pub units-level : (c : ℕ) → size formula c ≡ 1 → level trail (getD (clauseOf formula c) 0 0) ≡ 0
-  pub kept : (c : ℕ) → 2 ≤ size formula c
-      → KeptAt formula cells trail handled c
-  pub low : length (lowered trail) ≤ handled
-
 -- one entry more, of a literal that was not on the trail
 pub pending-push : {formula : Formula} {cells : List Cell} {trail : List Entry} {handled : ℕ} (e : Entry) → place trail (e .literal) ≡ 0
     → handled ≤ length trail → length (lowered (e ∷ trail)) ≤ handled → Pending formula cells trail handled
@@ -124,7 +103,7 @@ pending-push {formula} {cells} {trail} {handled} e off within low p =
     record {
       units-on = λ c u. rw (old-stays e trail off (getD (clauseOf formula c) 0 0) (p .units-on c u) .0) (p .units-on c u);
       units-level = λ c u. old-stays e trail off (getD (clauseOf formula c) 0 0) (p .units-on c u) .1 ∙ p .units-level c u;
-      kept = λ c two. kept-push e off within (p .kept c two);
+      guarded = λ c two. guarded-push e off within (p .guarded c two);
       low = low;
     }
 
@@ -136,48 +115,32 @@ propagation {formula} {trail} run p all =
     record {
       units-true = λ c u. place-true trail (getD (clauseOf formula c) 0 0) (p .units-on c u);
       units-level = p .units-level;
-      watches = λ c t. kept-holds (p .kept c t) all;
+      watches = λ c t. guarded-holds (p .guarded c t) all;
     }
 
-pub unfixed : {formula : Formula} {trail : List Entry} (run : Run) → distinct (variables trail) ≡ true → Fixpoint formula run trail
+pub unfixed : {formula : Formula} {trail : List Entry} (run : Run) → distinct (variablesOn trail) ≡ true → Fixpoint formula run trail
     → Pending formula (run .cells) trail (length trail)
 unfixed {formula} {trail} run d s =
     record {
       units-on = λ c u. true-place trail (getD (clauseOf formula c) 0 0) (s .units-true c u);
       units-level = s .units-level;
-      kept = λ c t. holds-kept d (s .watches c t) (length trail);
+      guarded = λ c t. holds-guarded d (s .watches c t) (length trail);
       low = suffix-length (lowered-suffix trail);
     }
 
 -- the trail without its top level is all handled
-pub pending-lowered : {formula : Formula} {cells : List Cell} {trail : List Entry} {handled : ℕ} → distinct (variables trail) ≡ true
+pub pending-lowered : {formula : Formula} {cells : List Cell} {trail : List Entry} {handled : ℕ} → distinct (variablesOn trail) ≡ true
     → 0 < length (decisions trail) → Pending formula cells trail handled → Pending formula cells (lowered trail) (length (lowered trail))
 pending-lowered {formula} {cells} {trail} {handled} d some p =
     record {
       units-on = λ c u. rw (suffix-place (lowered-suffix trail) (getD (clauseOf formula c) 0 0) (down c u)) (p .units-on c u);
       units-level = λ c u. suffix-level (lowered-suffix trail) (getD (clauseOf formula c) 0 0) (down c u) ∙ p .units-level c u;
-      kept = λ c t. kept-lowered d some (p .low) (p .kept c t) (length (lowered trail));
+      guarded = λ c t. guarded-lowered d some (p .low) (p .guarded c t) (length (lowered trail));
       low = suffix-length (lowered-suffix (lowered trail));
     }
   where
     down : (c : ℕ) → size formula c ≡ 1 → place trail (getD (clauseOf formula c) 0 0) ≤ length (lowered trail)
     down c u = below-top trail (getD (clauseOf formula c) 0 0) (let z = p .units-level c u in omega arith)
-
--- The structural conditions of a valid run, part by part.
-pub record Trailed (formula : Formula) (trail : List Entry) : Type 0 where
-  pub within : (l : ℕ) → isTrue trail l ≡ true → literalWithin (formula .variables) l ≡ true
-  pub once : distinct (variables trail) ≡ true
-  pub justified : Justified formula trail
-
-pub record Counted (formula : Formula) (checks : List ℕ) (backtracks : ℕ) : Type 0 where
-  pub checks-length : length checks ≡ length (formula .clauses)
-  pub checks-within : (c : ℕ) → getD checks c 0 ≤ maxCount
-  pub backtracks-within : backtracks ≤ maxBacktracks
-
-pub record Structure (formula : Formula) (run : Run) : Type 0 where
-  pub watched : Watched formula (run .cells) (run .lists)
-  pub trailed : Trailed formula (run .trail)
-  pub counted : Counted formula (run .checks) (run .backtracks)
 
 pub valid-structure : {formula : Formula} {run : Run} → Valid formula run → Structure formula run
 valid-structure v =
@@ -198,6 +161,38 @@ valid-structure v =
             backtracks-within = v .backtracks-within;
           };
     }
+
+-- the counts after some more checks
+pub checks-added : {formula : Formula} {checks : List ℕ} {backtracks : ℕ} (c made : ℕ) → Counted formula checks backtracks
+    → Counted formula (addChecks checks c made) backtracks
+unfolding addChecks
+checks-added {formula} {checks} c made k =
+    record {
+      checks-length = length-set checks c (min (getD checks c 0 + made) maxCount) ∙ k .checks-length;
+      checks-within =
+          λ d. ⊎-elim (λ e. rw e (k .checks-within d)) (λ e. rw (e .1) (omega arith))
+          (getD-set-cases checks c d (min (getD checks c 0 + made) maxCount) 0);
+      backtracks-within = k .backtracks-within;
+    }
+
+-- the trail with one entry more, of a variable that is not on it
+pub trailed-push : {formula : Formula} {trail : List Entry} (e : Entry) → Trailed formula trail
+    → literalWithin (formula .variables) (e .literal) ≡ true
+    → place trail (e .literal) ≡ 0 → place trail (opposite (e .literal)) ≡ 0 → (e .decided ≡ false → Reason formula trail (e .literal))
+    → Trailed formula (e ∷ trail)
+unfolding distinct
+trailed-push {formula} {trail} e t w off off′ reason =
+    record {
+      within = λ l h. within-now l (true-place (e ∷ trail) l h) (place-cases e trail l);
+      once = both (ap not (off-trail trail (e .literal) off off′)) (t .once);
+      justified = (reason, t .justified);
+    }
+  where
+    within-now : (l : ℕ) → 0 < place (e ∷ trail) l
+        → PlaceCase e trail l
+        → literalWithin (formula .variables) l ≡ true
+    within-now l h (inl p) = rw (← p .0) w
+    within-now l h (inr p) = t .within l (place-true trail l (rw (p .1) at h))
 
 -- a valid run out of its structure and its state
 pub structure-valid : {formula : Formula} {run : Run} → Structure formula run
@@ -223,24 +218,6 @@ structure-valid s fixpoint conflict-false fixpoint-below =
       conflict-false = conflict-false;
       fixpoint-below = fixpoint-below;
     }
-
--- Propagation with `handled` literals handled; and ended in a conflict.
-pub record Going (formula : Formula) (handled : ℕ) (run : Run) : Type 0 where
-  pub structure : Structure formula run
-  pub quiet : run .conflict ≡ 0
-  pub pending : Pending formula (run .cells) (run .trail) handled
-
-pub record Ended (formula : Formula) (run : Run) : Type 0 where
-  pub valid : Valid formula run
-  pub loud : inConflict run ≡ true
-
--- Reading the list of q, whose opposite is the next trail literal, with `unread` left of it.
-pub record Reading (formula : Formula) (handled q : ℕ) (unread : List ℕ) (run : Run) : Type 0 where
-  pub going : Going formula handled run
-  pub next : place (run .trail) (opposite q) ≡ suc handled
-  pub read : (c : ℕ) → 2 ≤ size formula c → times c unread ≡ 0
-      → KeptAt formula (run .cells) (run .trail) (suc handled) c
-  pub left : (c : ℕ) → times c unread ≤ times c (listOf (run .lists) q)
 
 pub quiet-out : (run : Run) → run .conflict ≡ 0 → inConflict run ≡ false
 quiet-out run e = rw (eq-eqb (run .conflict) 0 e)

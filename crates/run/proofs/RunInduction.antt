@@ -12,12 +12,12 @@ use Rattle.base.proofs.Bools.{never}
 use Rattle.book.specs.Formula.{Formula, sound}
 use Rattle.run.specs.Trail.{isTrue, isFalse}
 use Rattle.run.specs.Run.{Run, listOf, onTrail, withConflict, visit, inConflict, propagate, fresh, assignUnit, assignUnits, openRun, decide, backtrack}
-use Rattle.run.specs.Calls
-use Rattle.run.specs.Calls.{Call, decision, backtrackBy, decideRefusal, backtrackRefusal, refusal, step, stepAll, reference}
+use Rattle.run.specs.Calls.{Call, decision, backtrackBy, decideRefusal, backtrackRefusal, refusal, performCall, step, stepAll, reference}
 use Rattle.run.specs.Valid.{Valid}
 use Rattle.run.specs.Ceiling.{checksOf, countAtLatest, countBefore}
+use Rattle.run.specs.Progress.{Structure, Going, Ended, ReadingList}
 use Rattle.run.proofs.Inductions.{read-induction, nextRead, readNext, propagate-induction}
-use Rattle.run.proofs.Propagation.{Structure, Going, Ended, Reading, quiet-out}
+use Rattle.run.proofs.Propagation.{quiet-out}
 use Rattle.run.proofs.Visits.{Seen, seen, visit-outcome}
 use Rattle.run.proofs.Validity.{reading-begins, reading-ends, short, decision-accepted, decision-going}
 use Rattle.run.proofs.Opening.{opening-state}
@@ -35,7 +35,7 @@ pub record Keeps (formula : Formula) (c : ℕ) (K : ℕ → Run → Type 0) : Ty
 
 module _ (formula : Formula) (ok : sound formula ≡ true) (c : ℕ) (K : ℕ → Run → Type 0) (keeps : Keeps formula c K) where
   -- propagation keeps it
-  reading-keeps : (before handled q d : ℕ) (unread : List ℕ) (run : Run) → Reading formula handled q (d ∷ unread) run → K before run
+  reading-keeps : (before handled q d : ℕ) (unread : List ℕ) (run : Run) → ReadingList formula handled q (d ∷ unread) run → K before run
       → K before (visit formula q d run)
   reading-keeps before handled q d unread run r k =
       keeps .at-visit before q d run (quiet-out run (r .going .quiet)) (r .going .structure) (seen r) k
@@ -50,20 +50,20 @@ module _ (formula : Formula) (ok : sound formula ≡ true) (c : ℕ) (K : ℕ �
       → Goes before (suc handled) (readNext formula handled run) ⊎ Ends before (readNext formula handled run)
   reads-keep before handled run g h =
       ⊎-elim (λ r. inl (reading-ends (r .0), r .1)) inr
-      (read-induction formula q (λ unread r. Reading formula handled q unread r × K before r) (Ends before) on off
+      (read-induction formula q (λ unread r. ReadingList formula handled q unread r × K before r) (Ends before) on off
       (listOf (run .lists) q) run (reading-begins (g .0) h, g .1))
     where
       q : ℕ
       q = nextRead handled run
 
-      on : (d : ℕ) (unread : List ℕ) (r : Run) → Reading formula handled q (d ∷ unread) r × K before r → inConflict (visit formula q d r) ≡ false
-          → Reading formula handled q unread (visit formula q d r) × K before (visit formula q d r)
+      on : (d : ℕ) (unread : List ℕ) (r : Run) → ReadingList formula handled q (d ∷ unread) r × K before r → inConflict (visit formula q d r) ≡ false
+          → ReadingList formula handled q unread (visit formula q d r) × K before (visit formula q d r)
       on d unread r k e = (
         ⊎-elim (λ o. o) (λ o. absurd (never (o .loud) e)) (visit-outcome formula ok handled q d unread r (k .0)),
         reading-keeps before handled q d unread r (k .0) (k .1),
       )
 
-      off : (d : ℕ) (unread : List ℕ) (r : Run) → Reading formula handled q (d ∷ unread) r × K before r → inConflict (visit formula q d r) ≡ true
+      off : (d : ℕ) (unread : List ℕ) (r : Run) → ReadingList formula handled q (d ∷ unread) r × K before r → inConflict (visit formula q d r) ≡ true
           → Ends before (visit formula q d r)
       off d unread r k e = (
         ⊎-elim (λ o. absurd (never e (quiet-out (visit formula q d r) (o .going .quiet)))) (λ o. o) (visit-outcome formula ok handled q d unread r (k .0)),
@@ -112,7 +112,7 @@ module _ (formula : Formula) (ok : sound formula ≡ true) (c : ℕ) (K : ℕ �
   -- every call keeps it
   calls-keep : (calls : List Call) (before : ℕ) (run : Run) → Valid formula run → K before run
       → K (countAtLatest formula c before run calls) (stepAll formula run calls)
-  unfolding countAtLatest stepAll step refusal Calls.perform
+  unfolding countAtLatest stepAll step refusal performCall
   calls-keep [] before run v k = k
   calls-keep (decision l ∷ calls) before run v k =
       go (eqb (decideRefusal formula l run) 0) refl (λ next. calls-keep calls before next)

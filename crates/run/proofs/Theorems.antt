@@ -14,16 +14,16 @@ use Rattle.book.specs.Formula.{Formula, sound}
 use Rattle.run.specs.Trail.{Entry, isTrue, isFalse, decisions, cut}
 use Rattle.run.specs.Scan.{Cell}
 use Rattle.run.specs.Run.{Run, clauseOf, Action, moves, action, onTrail, inConflict, propagateFrom, fresh, assignUnits, openRun, decide, backtrack}
-use Rattle.run.specs.Calls.{Call, decision, backtrackBy, decideRefusal, backtrackRefusal, refusal, perform, step, stepAll, reference}
+use Rattle.run.specs.Calls.{Call, decision, backtrackBy, decideRefusal, backtrackRefusal, refusal, performCall, step, stepAll, reference}
 use Rattle.run.specs.Valid.{Valid}
-use Rattle.run.specs.Closure.{Closure, UnitClosed, Holds, BothWays}
-use Rattle.run.proofs.Trails.{suffix-append, cut-suffix, cut-decisions}
+use Rattle.run.specs.Closure.{Closure, UnitClosed, Contains, BothWays}
 use Rattle.run.proofs.ScanLaws.{scan-found}
 use Rattle.run.proofs.Growth.{same, grown-by, propagating-grows}
-use Rattle.run.proofs.Visits.{Case, staying, moving, implying, conflicting, action-case}
 use Rattle.run.proofs.Validity.{propagated, fuel-enough, decision-accepted, decision-going, decided-valid, backtrack-accepted, backtracked-valid}
 use Rattle.run.proofs.Opening.{opening-state}
 use Rattle.run.proofs.ClosureLaws.{closure-within, closure-holds, closure-closed, closure-grows, assigned-closure, conflict-both-ways}
+use Rattle.run.proofs.Levels.{suffix-append, cut-suffix, cut-decisions}
+use Rattle.run.proofs.Actions.{Case, staying, moving, implying, conflicting, action-case}
 
 -- Every reference run is valid.
 pub open-valid : (formula : Formula) → sound formula ≡ true → Valid formula (openRun formula)
@@ -39,8 +39,8 @@ pub backtrack-valid : (formula : Formula) (k : ℕ) (run : Run) → sound formul
 backtrack-valid formula k run s v z = let a = backtrack-accepted k run z in backtracked-valid k run v (a .0) (a .1) (a .2)
 
 perform-valid : (formula : Formula) (run : Run) → sound formula ≡ true → (call : Call) → Valid formula run → refusal formula call run ≡ 0
-    → Valid formula (perform formula call run)
-unfolding perform refusal
+    → Valid formula (performCall formula call run)
+unfolding performCall refusal
 perform-valid formula run s (decision l) v z = decide-valid formula l run s v z
 perform-valid formula run s (backtrackBy k) v z = backtrack-valid formula k run s v z
 
@@ -49,7 +49,7 @@ pub step-valid : (formula : Formula) (run : Run) → sound formula ≡ true → 
 unfolding step
 step-valid formula run s call v = go (eqb (refusal formula call run) 0) refl
   where
-    go : (b : Bool) → eqb (refusal formula call run) 0 ≡ b → Valid formula (cond b (perform formula call run) run)
+    go : (b : Bool) → eqb (refusal formula call run) 0 ≡ b → Valid formula (cond b (performCall formula call run) run)
     go true e = perform-valid formula run s call v (eqb-true (refusal formula call run) 0 e)
     go false e = v
 
@@ -70,9 +70,9 @@ reference-valid formula s calls = all-valid formula s calls (openRun formula) (o
 -- The closure is the least set that holds the decisions and is closed under the unit rule; any valid run holds just the closure of its
 -- decisions out of conflict, and is in conflict just where the closure has some variable both ways.
 pub closure-least : (formula : Formula) (ds : List ℕ)
-    → Holds ds (Closure formula ds)
+    → Contains ds (Closure formula ds)
     × UnitClosed formula (Closure formula ds)
-    × ((S : ℕ → Type 0) → Holds ds S → UnitClosed formula S → (l : ℕ) → Closure formula ds l → S l)
+    × ((S : ℕ → Type 0) → Contains ds S → UnitClosed formula S → (l : ℕ) → Closure formula ds l → S l)
 closure-least formula ds = (closure-holds formula ds, closure-closed formula ds, λ S holds closed l k. closure-within S holds closed k)
 
 pub assigned-is-closure : (formula : Formula) (run : Run) → sound formula ≡ true → Valid formula run → run .conflict ≡ 0 → (l : ℕ)

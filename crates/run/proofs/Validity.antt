@@ -13,22 +13,24 @@ use Rattle.base.proofs.Bools.{and-parts, never, neither-left, neither-right}
 use Rattle.base.proofs.Pigeonhole.{pigeonhole}
 use Rattle.book.specs.Formula.{Formula, variableOf, literalWithin, sound}
 use Rattle.book.proofs.SoundLaws.{literal-parts}
-use Rattle.run.specs.Trail.{Entry, opposite, place, literalAt, isTrue, isFalse, isAssigned, decisions, lowered, cut}
+use Rattle.run.specs.Trail.{Entry, opposite, place, literalAt, isTrue, isFalse, isAssigned, decisions, lowered, cut, variablesOn}
 use Rattle.run.specs.Scan.{Cell}
 use Rattle.run.specs.Run.{Run, size, listOf, onTrail, visit, inConflict, propagateFrom, propagate, decide, backtrack}
 use Rattle.run.specs.Calls.{decideRefusal, backtrackRefusal, maxBacktracks}
 use Rattle.run.specs.Valid.{one, Justified, Valid}
-use Rattle.run.proofs.Trails.{opposite-opposite, opposite-injective, untrue-place, place-of-literal, place-injective, variables, variable-on, place-true, Suffix, whole, newer, suffix-distinct, lowered-cases, lowered-suffix, lowered-count, suffix-true, cut-suffix}
-use Rattle.run.proofs.WatchLists.{secondLiteral, firstLiteral, among}
+use Rattle.run.specs.Progress.{secondLiteral, firstLiteral, among, Guard, BothGuarded, Pending, Trailed, Going, Ended, ReadingList}
+use Rattle.run.proofs.Trails.{untrue-place, place-of-literal, place-injective, variable-on, place-true}
 use Rattle.run.proofs.Inductions.{read-induction, nextRead, readNext, propagate-induction, enough-fuel}
-use Rattle.run.proofs.Propagation.{Guard, Kept, Pending, pending-push, pending-lowered, unfixed, Trailed, valid-structure, Going, Ended, Reading, quiet-out, going-valid}
-use Rattle.run.proofs.Visits.{trailed-push, visit-outcome}
+use Rattle.run.proofs.Propagation.{pending-push, pending-lowered, unfixed, valid-structure, quiet-out, going-valid, trailed-push}
+use Rattle.run.proofs.Visits.{visit-outcome}
+use Rattle.run.proofs.Opposites.{opposite-opposite, opposite-injective}
+use Rattle.run.proofs.Levels.{Suffix, whole, newer, suffix-distinct, lowered-cases, lowered-suffix, lowered-count, suffix-true, cut-suffix}
 
 -- the trail holds no more literals than there are variables
 pub trail-short : {formula : Formula} {trail : List Entry} → Trailed formula trail → length trail ≤ formula .variables
 trail-short {formula} {trail} t =
     rw (← length-map trail (λ (e : Entry). variableOf (e .literal)))
-    (pigeonhole (formula .variables) (variables trail) (t .once) (λ x m. within x (variable-on trail x m)))
+    (pigeonhole (formula .variables) (variablesOn trail) (t .once) (λ x m. within x (variable-on trail x m)))
   where
     within : (x : ℕ) → (l : ℕ) × (0 < place trail l) × (variableOf l ≡ x) → (1 ≤ x) × (x ≤ formula .variables)
     within x k =
@@ -42,10 +44,10 @@ unlisted l a b z =
     (λ e. let o : one (eqb l a) ≡ 1 = rw (eq-eqb l a e) in omega arith, λ e. let o : one (eqb l b) ≡ 1 = rw (eq-eqb l b e) in omega arith)
 
 -- its condition goes on over the opposite of q
-kept-next : {trail : List Entry} {handled q a b : ℕ} → place trail (opposite q) ≡ suc handled → (q ≡ a → ⊥) → (q ≡ b → ⊥)
-    → Kept trail handled a b
-    → Kept trail (suc handled) a b
-kept-next {trail} {handled} {q} {a} {b} at n m k = record { forth = guard a b n (k .forth); back = guard b a m (k .back) }
+guarded-next : {trail : List Entry} {handled q a b : ℕ} → place trail (opposite q) ≡ suc handled → (q ≡ a → ⊥) → (q ≡ b → ⊥)
+    → BothGuarded trail handled a b
+    → BothGuarded trail (suc handled) a b
+guarded-next {trail} {handled} {q} {a} {b} at n m k = record { forth = guard a b n (k .forth); back = guard b a m (k .back) }
   where
     guard : (x y : ℕ) → (q ≡ x → ⊥) → Guard trail handled x y → Guard trail (suc handled) x y
     guard x y apart g p h =
@@ -55,7 +57,7 @@ kept-next {trail} {handled} {q} {a} {b} at n m k = record { forth = guard a b n 
 
 -- reading begins
 pub reading-begins : {formula : Formula} {handled : ℕ} {run : Run} → Going formula handled run → handled < length (run .trail)
-    → Reading formula handled (nextRead handled run) (listOf (run .lists) (nextRead handled run)) run
+    → ReadingList formula handled (nextRead handled run) (listOf (run .lists) (nextRead handled run)) run
 reading-begins {formula} {handled} {run} g h =
     record {
       going = g;
@@ -81,10 +83,10 @@ reading-begins {formula} {handled} {run} g h =
         rw (opposite-opposite (literalAt (run .trail) (suc handled)))
         (place-of-literal (run .trail) handled (g .structure .trailed .once) h)
 
-    rest : (c : ℕ) → 2 ≤ size formula c → (q ≡ first c → ⊥) × (q ≡ second c → ⊥) → Kept (run .trail) (suc handled) (first c) (second c)
-    rest c two n = kept-next at (n .0) (n .1) (g .pending .kept c two)
+    rest : (c : ℕ) → 2 ≤ size formula c → (q ≡ first c → ⊥) × (q ≡ second c → ⊥) → BothGuarded (run .trail) (suc handled) (first c) (second c)
+    rest c two n = guarded-next at (n .0) (n .1) (g .pending .guarded c two)
 
-pub reading-ends : {formula : Formula} {handled q : ℕ} {run : Run} → Reading formula handled q [] run → Going formula (suc handled) run
+pub reading-ends : {formula : Formula} {handled q : ℕ} {run : Run} → ReadingList formula handled q [] run → Going formula (suc handled) run
 unfolding times
 reading-ends {formula} {handled} {q} {run} r =
     record {
@@ -94,7 +96,7 @@ reading-ends {formula} {handled} {q} {run} r =
           record {
             units-on = r .going .pending .units-on;
             units-level = r .going .pending .units-level;
-            kept = λ c two. r .read c two refl;
+            guarded = λ c two. r .read c two refl;
             low = omega (arith, r .going .pending .low);
           };
     }
@@ -104,7 +106,7 @@ module _ (formula : Formula) (s : sound formula ≡ true) where
       → Going formula (suc handled) (readNext formula handled run) ⊎ Ended formula (readNext formula handled run)
   reads handled run g h =
       ⊎-elim (λ r. inl (reading-ends r)) inr
-      (read-induction formula q (Reading formula handled q) (Ended formula)
+      (read-induction formula q (ReadingList formula handled q) (Ended formula)
       (λ c unread r k z. ⊎-elim (λ o. o) (λ o. absurd (never (o .loud) z)) (visit-outcome formula s handled q c unread r k))
       (λ c unread r k z.
       ⊎-elim (λ o. absurd (never z (quiet-out (visit formula q c r) (o .going .quiet)))) (λ o. o) (visit-outcome formula s handled q c unread r k))
@@ -202,7 +204,7 @@ trailed-older {formula} s t =
       justified = justified-older formula s (t .justified);
     }
 
-pending-cut : {formula : Formula} {cells : List Cell} (k : ℕ) (trail : List Entry) → distinct (variables trail) ≡ true
+pending-cut : {formula : Formula} {cells : List Cell} (k : ℕ) (trail : List Entry) → distinct (variablesOn trail) ≡ true
     → k ≤ length (decisions trail)
     → Pending formula cells trail (length trail) → Pending formula cells (cut k trail) (length (cut k trail))
 unfolding cut

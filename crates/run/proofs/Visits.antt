@@ -1,93 +1,31 @@
 -- A visit of one clause of the list that is read, case by case: it keeps the invariant of reading, or ends in a conflict and is valid.
-use Prim.Native.Nat.{ℕ, suc, _+_, _≤_, _<_, min}
+use Prim.Native.Nat.{ℕ, suc, _≤_, _<_}
 use native.Mathlib.Omega.{arith}
-use mathlib.Core.Bool.{Bool, true, false, cond, not}
+use mathlib.Core.Bool.{Bool, true, false, cond}
 use mathlib.Core.List.{List, _∷_}
 use mathlib.Core.Logic.{_⊎_, inl, inr, ⊎-elim}
-use mathlib.Core.Option.{Option, none, some}
+use mathlib.Core.Option.{none, some}
 use mathlib.Core.Path.{_≡_, refl, sym, ap, subst₂, _∙_}
 use borrow.Author.Tests.{ne-eqb}
 use lib.Dec.{eqb}
-use lib.ListN.{length, getD, set, length-set}
+use lib.ListN.{length, getD, set}
 use Rattle.base.specs.Lists.{member, distinct, times}
-use Rattle.base.proofs.Bools.{alike, never, both}
-use Rattle.base.proofs.Lists.{getD-set-cases}
+use Rattle.base.proofs.Bools.{alike, never}
 use Rattle.base.proofs.Members.{position, member-at, times-same, times-other}
 use Rattle.book.specs.Formula.{Formula, literalWithin, sound}
-use Rattle.run.specs.Trail.{Entry, opposite, place, isTrue, isFalse, decisions, level, lowered}
+use Rattle.run.specs.Trail.{Entry, opposite, place, isTrue, isFalse, decisions, level, lowered, variablesOn}
 use Rattle.run.specs.Scan.{Cell, watched, scan}
-use Rattle.run.specs.Run.{Run, clauseOf, size, cellOf, listOf, pushFront, takeOut, addChecks, maxCount, otherWatch, moved, Action, stays, moves, implies, conflicts, scannedAction, action, onTrail, withWatches, withConflict, counted, perform, visit}
+use Rattle.run.specs.Run.{Run, clauseOf, size, cellOf, listOf, pushFront, takeOut, otherWatch, moved, Action, moves, implies, conflicts, onTrail, withWatches, withConflict, counted, performAction, visit}
 use Rattle.run.specs.Valid.{Reason, Watching}
+use Rattle.run.specs.Progress.{Watched, BothGuardedAt, BothGuarded, Ended, ReadingList}
 use Rattle.run.proofs.ScanLaws.{pointer-within, scan-found, scan-none}
-use Rattle.run.proofs.Trails.{PlaceCase, opposite-opposite, opposite-other, opposite-injective, true-place, place-true, untrue-place, place-untrue, place-new, place-old, place-cases, place-within, place-injective, variables, off-trail, consistent, decided-count, lowered-cases, level-within, top-level}
+use Rattle.run.proofs.Trails.{true-place, place-true, untrue-place, place-untrue, place-new, place-old, place-within, place-injective, consistent}
 use Rattle.run.proofs.Clauses.{clause-exists, literal-within}
-use Rattle.run.proofs.WatchLists.{Watched, Sides, Order, forth, back, apart-unwatched, listed-size, listed-sides, listed-once, sides-differ, moved-times, moved-watched, cell-after, cell-others}
-use Rattle.run.proofs.Propagation.{KeptAt, Kept, kept-swap, old-stays, kept-push, pending-push, propagation, pending-lowered, Trailed, Counted, structure-valid, Ended, Reading}
-
--- Which action it is, and what that says.
-pub data Case (trail : List Entry) (clause : List ℕ) (cell : Cell) (q : ℕ) : Action → Type 0 where
-  staying : isTrue trail (otherWatch clause cell q) ≡ true → Case trail clause cell q stays
-  moving : (position : ℕ) → isTrue trail (otherWatch clause cell q) ≡ false → scan trail clause cell .found ≡ some position
-      → Case trail clause cell q (moves position (scan trail clause cell .checks))
-  implying : isTrue trail (otherWatch clause cell q) ≡ false → scan trail clause cell .found ≡ none
-      → isFalse trail (otherWatch clause cell q) ≡ false
-      → Case trail clause cell q (implies (scan trail clause cell .checks))
-  conflicting : isTrue trail (otherWatch clause cell q) ≡ false → scan trail clause cell .found ≡ none
-      → isFalse trail (otherWatch clause cell q) ≡ true
-      → Case trail clause cell q (conflicts (scan trail clause cell .checks))
-
-pub action-case : (trail : List Entry) (clause : List ℕ) (cell : Cell) (q : ℕ) → Case trail clause cell q (action trail clause cell q)
-unfolding action scannedAction
-action-case trail clause cell q = go (isTrue trail (otherWatch clause cell q)) refl
-  where
-    unfound : (b : Bool) → isFalse trail (otherWatch clause cell q) ≡ b → isTrue trail (otherWatch clause cell q) ≡ false
-        → scan trail clause cell .found ≡ none
-        → Case trail clause cell q (cond b (conflicts (scan trail clause cell .checks)) (implies (scan trail clause cell .checks)))
-    unfound true e t n = conflicting t n e
-    unfound false e t n = implying t n e
-
-    scanned : (found : Option ℕ) → scan trail clause cell .found ≡ found → isTrue trail (otherWatch clause cell q) ≡ false
-        → Case trail clause cell q
-        (scannedAction (record { found = found; checks = scan trail clause cell .checks }) (isFalse trail (otherWatch clause cell q)))
-    scanned (some position) e t = moving position t e
-    scanned none e t = unfound (isFalse trail (otherWatch clause cell q)) refl t e
-
-    go : (b : Bool) → isTrue trail (otherWatch clause cell q) ≡ b
-        → Case trail clause cell q (cond b stays (scannedAction (scan trail clause cell) (isFalse trail (otherWatch clause cell q))))
-    go true e = staying e
-    go false e = scanned (scan trail clause cell .found) refl e
-
--- the counts after some more checks
-pub checks-added : {formula : Formula} {checks : List ℕ} {backtracks : ℕ} (c made : ℕ) → Counted formula checks backtracks
-    → Counted formula (addChecks checks c made) backtracks
-unfolding addChecks
-checks-added {formula} {checks} c made k =
-    record {
-      checks-length = length-set checks c (min (getD checks c 0 + made) maxCount) ∙ k .checks-length;
-      checks-within =
-          λ d. ⊎-elim (λ e. rw e (k .checks-within d)) (λ e. rw (e .1) (omega arith))
-          (getD-set-cases checks c d (min (getD checks c 0 + made) maxCount) 0);
-      backtracks-within = k .backtracks-within;
-    }
-
--- the trail with one entry more, of a variable that is not on it
-pub trailed-push : {formula : Formula} {trail : List Entry} (e : Entry) → Trailed formula trail
-    → literalWithin (formula .variables) (e .literal) ≡ true
-    → place trail (e .literal) ≡ 0 → place trail (opposite (e .literal)) ≡ 0 → (e .decided ≡ false → Reason formula trail (e .literal))
-    → Trailed formula (e ∷ trail)
-unfolding distinct
-trailed-push {formula} {trail} e t w off off′ reason =
-    record {
-      within = λ l h. within-now l (true-place (e ∷ trail) l h) (place-cases e trail l);
-      once = both (ap not (off-trail trail (e .literal) off off′)) (t .once);
-      justified = (reason, t .justified);
-    }
-  where
-    within-now : (l : ℕ) → 0 < place (e ∷ trail) l
-        → PlaceCase e trail l
-        → literalWithin (formula .variables) l ≡ true
-    within-now l h (inl p) = rw (← p .0) w
-    within-now l h (inr p) = t .within l (place-true trail l (rw (p .1) at h))
+use Rattle.run.proofs.Actions.{Case, staying, moving, implying, conflicting, action-case}
+use Rattle.run.proofs.WatchLists.{Sides, Order, forth, back, apart-unwatched, listed-size, listed-sides, listed-once, sides-differ, moved-times, moved-watched, cell-after, cell-others}
+use Rattle.run.proofs.Propagation.{guarded-swap, old-stays, guarded-push, pending-push, propagation, pending-lowered, structure-valid, checks-added, trailed-push}
+use Rattle.run.proofs.Opposites.{opposite-opposite, opposite-other, opposite-injective}
+use Rattle.run.proofs.Levels.{decided-count, lowered-cases, level-within, top-level}
 
 -- what is known of the clauses not in the rest of the list, once the first is done
 one-done : (done : ℕ → Type 0) (c : ℕ) (unread : List ℕ) → ((d : ℕ) → times d (c ∷ unread) ≡ 0 → done d) → done c → (d : ℕ)
@@ -111,7 +49,7 @@ pub record Seen (formula : Formula) (q c : ℕ) (run : Run) : Type 0 where
   pub q-false : isFalse (run .trail) q ≡ true
   pub q-untrue : isTrue (run .trail) q ≡ false
 
-pub seen : {formula : Formula} {handled q c : ℕ} {unread : List ℕ} {run : Run} → Reading formula handled q (c ∷ unread) run
+pub seen : {formula : Formula} {handled q c : ℕ} {unread : List ℕ} {run : Run} → ReadingList formula handled q (c ∷ unread) run
     → Seen formula q c run
 seen {formula} {handled} {q} {c} {unread} {run} r =
     record {
@@ -139,32 +77,32 @@ module _ {clause : List ℕ} {cell : Cell} {q : ℕ} (s : Sides clause cell q) (
   literal-at : {p r : ℕ} → p ≡ r → getD clause p 0 ≡ getD clause r 0
   literal-at e = ap (λ (p : ℕ). getD clause p 0) e
 
-  kept-from : Kept trail h (getD clause (cell .first) 0) (getD clause (cell .second) 0) → Kept trail h q (otherWatch clause cell q)
-  kept-from k = go (s .order)
+  guarded-from : BothGuarded trail h (getD clause (cell .first) 0) (getD clause (cell .second) 0) → BothGuarded trail h q (otherWatch clause cell q)
+  guarded-from k = go (s .order)
     where
-      go : Order clause cell q (s .here) (s .there) → Kept trail h q (otherWatch clause cell q)
-      go (forth f g m) = subst₂ (Kept trail h) (literal-at f ∙ s .here-literal) (literal-at g ∙ s .there-literal) k
-      go (back f g m) = kept-swap (subst₂ (Kept trail h) (literal-at f ∙ s .there-literal) (literal-at g ∙ s .here-literal) k)
+      go : Order clause cell q (s .here) (s .there) → BothGuarded trail h q (otherWatch clause cell q)
+      go (forth f g m) = subst₂ (BothGuarded trail h) (literal-at f ∙ s .here-literal) (literal-at g ∙ s .there-literal) k
+      go (back f g m) = guarded-swap (subst₂ (BothGuarded trail h) (literal-at f ∙ s .there-literal) (literal-at g ∙ s .here-literal) k)
 
-  kept-to : Kept trail h q (otherWatch clause cell q) → Kept trail h (getD clause (cell .first) 0) (getD clause (cell .second) 0)
-  kept-to k = go (s .order)
+  guarded-to : BothGuarded trail h q (otherWatch clause cell q) → BothGuarded trail h (getD clause (cell .first) 0) (getD clause (cell .second) 0)
+  guarded-to k = go (s .order)
     where
-      go : Order clause cell q (s .here) (s .there) → Kept trail h (getD clause (cell .first) 0) (getD clause (cell .second) 0)
-      go (forth f g m) = subst₂ (Kept trail h) (sym (literal-at f ∙ s .here-literal)) (sym (literal-at g ∙ s .there-literal)) k
-      go (back f g m) = subst₂ (Kept trail h) (sym (literal-at f ∙ s .there-literal)) (sym (literal-at g ∙ s .here-literal)) (kept-swap k)
+      go : Order clause cell q (s .here) (s .there) → BothGuarded trail h (getD clause (cell .first) 0) (getD clause (cell .second) 0)
+      go (forth f g m) = subst₂ (BothGuarded trail h) (sym (literal-at f ∙ s .here-literal)) (sym (literal-at g ∙ s .there-literal)) k
+      go (back f g m) = subst₂ (BothGuarded trail h) (sym (literal-at f ∙ s .there-literal)) (sym (literal-at g ∙ s .here-literal)) (guarded-swap k)
 
-  kept-moved : (p : ℕ) → Kept trail h (getD clause p 0) (otherWatch clause cell q)
-      → Kept trail h (getD clause (moved clause cell q p .first) 0) (getD clause (moved clause cell q p .second) 0)
-  kept-moved p k = go (s .order)
+  guarded-moved : (p : ℕ) → BothGuarded trail h (getD clause p 0) (otherWatch clause cell q)
+      → BothGuarded trail h (getD clause (moved clause cell q p .first) 0) (getD clause (moved clause cell q p .second) 0)
+  guarded-moved p k = go (s .order)
     where
       go : Order clause cell q (s .here) (s .there)
-          → Kept trail h (getD clause (moved clause cell q p .first) 0) (getD clause (moved clause cell q p .second) 0)
+          → BothGuarded trail h (getD clause (moved clause cell q p .first) 0) (getD clause (moved clause cell q p .second) 0)
       go (forth f g m) = rw (m p, s .there-literal) k
-      go (back f g m) = rw (m p, s .there-literal) (kept-swap k)
+      go (back f g m) = rw (m p, s .there-literal) (guarded-swap k)
 
 -- The four cases of a visit of clause c, from the list of q.
 module _ (formula : Formula) (s : sound formula ≡ true) (handled q c : ℕ) (unread : List ℕ) (run : Run)
-    (r : Reading formula handled q (c ∷ unread) run) where
+    (r : ReadingList formula handled q (c ∷ unread) run) where
   abbrev trail : List Entry
   trail = run .trail
 
@@ -175,12 +113,12 @@ module _ (formula : Formula) (s : sound formula ≡ true) (handled q c : ℕ) (u
   other = otherWatch clause (cellOf run c) q
 
   abbrev Good : ℕ → ℕ → Type 0
-  Good h d = KeptAt formula (run .cells) trail h d
+  Good h d = BothGuardedAt formula (run .cells) trail h d
 
   here : Seen formula q c run
   here = seen r
 
-  once : distinct (variables trail) ≡ true
+  once : distinct (variablesOn trail) ≡ true
   once = r .going .structure .trailed .once
 
   handled-within : suc handled ≤ length trail
@@ -190,8 +128,8 @@ module _ (formula : Formula) (s : sound formula ≡ true) (handled q c : ℕ) (u
   q-level : level trail (opposite q) ≡ length (decisions trail)
   q-level = top-level trail (opposite q) (omega (arith, r .next, r .going .pending .low))
 
-  before : Kept trail handled q other
-  before = kept-from (here .sides) trail handled (r .going .pending .kept c (here .two))
+  before : BothGuarded trail handled q other
+  before = guarded-from (here .sides) trail handled (r .going .pending .guarded c (here .two))
 
   q-other : q ≡ other → ⊥
   q-other = sides-differ formula s c (here .sides)
@@ -203,7 +141,7 @@ module _ (formula : Formula) (s : sound formula ≡ true) (handled q c : ℕ) (u
   q-off : place trail q ≡ 0
   q-off = untrue-place trail q (here .q-untrue)
 
-  stays-reading : isTrue trail other ≡ true → Reading formula handled q unread run
+  stays-reading : isTrue trail other ≡ true → ReadingList formula handled q unread run
   stays-reading t =
       record {
         going = r .going;
@@ -218,15 +156,15 @@ module _ (formula : Formula) (s : sound formula ≡ true) (handled q c : ℕ) (u
 
       now : Good (suc handled) c
       now =
-          kept-to (here .sides) trail (suc handled)
+          guarded-to (here .sides) trail (suc handled)
           (record {
             forth = λ p h. (on, omega (arith, q-level, level-within trail other));
             back = λ p h. absurd (omega (arith, consistent trail other once on));
           })
 
   moves-reading : (position made : ℕ) → position < size formula c → watched (cellOf run c) position ≡ false
-      → isFalse trail (getD clause position 0) ≡ false → Reading formula handled q unread (perform formula q c (moves position made) run)
-  unfolding perform counted withWatches
+      → isFalse trail (getD clause position 0) ≡ false → ReadingList formula handled q unread (performAction formula q c (moves position made) run)
+  unfolding performAction counted withWatches
   moves-reading position made within free unfalse =
       record {
         going =
@@ -244,8 +182,8 @@ module _ (formula : Formula) (s : sound formula ≡ true) (handled q c : ℕ) (u
                   record {
                     units-on = r .going .pending .units-on;
                     units-level = r .going .pending .units-level;
-                    kept =
-                        λ d two. ⊎-elim (λ e. rw e (now handled (omega arith))) (λ e. others handled d e (r .going .pending .kept d two))
+                    guarded =
+                        λ d two. ⊎-elim (λ e. rw e (now handled (omega arith))) (λ e. others handled d e (r .going .pending .guarded d two))
                         (alike d c);
                     low = r .going .pending .low;
                   };
@@ -275,17 +213,17 @@ module _ (formula : Formula) (s : sound formula ≡ true) (handled q c : ℕ) (u
               omega (arith, q-off, before .back p (omega arith) .0)
 
       now : (h : ℕ) → h ≤ suc handled
-          → KeptAt formula (set (run .cells) c after) trail h c
+          → BothGuardedAt formula (set (run .cells) c after) trail h c
       now h k =
           rw (cell-after formula s (run .cells) (run .lists) (r .going .structure .watched) q c (here .in-list) position within free)
-          (kept-moved (here .sides) trail h position
+          (guarded-moved (here .sides) trail h position
           (record {
             forth = λ x y. absurd (omega (arith, untrue-place trail (opposite m) unfalse));
             back = λ x y. absurd (other-open x (omega arith));
           }))
 
       others : (h d : ℕ) → (d ≡ c → ⊥) → Good h d
-          → KeptAt formula (set (run .cells) c after) trail h d
+          → BothGuardedAt formula (set (run .cells) c after) trail h d
       others h d e k =
           rw (cell-others formula s (run .cells) (run .lists) (r .going .structure .watched) q c (here .in-list) position within free d e) k
 
@@ -315,8 +253,8 @@ module _ (formula : Formula) (s : sound formula ≡ true) (handled q c : ℕ) (u
       (all-false unfound (at .0) (at .1) (λ e. n (sym (at .2) ∙ ap (λ (i : ℕ). getD clause i 0) e ∙ here .sides .there-literal)))
 
   implies-reading : (made : ℕ) → isTrue trail other ≡ false → isFalse trail other ≡ false → scan trail clause (cellOf run c) .found ≡ none
-      → Reading formula handled q unread (perform formula q c (implies made) run)
-  unfolding perform counted onTrail
+      → ReadingList formula handled q unread (performAction formula q c (implies made) run)
+  unfolding performAction counted onTrail
   implies-reading made untrue unfalse unfound =
       record {
         going =
@@ -332,7 +270,7 @@ module _ (formula : Formula) (s : sound formula ≡ true) (handled q c : ℕ) (u
             };
         next = q-stays .0 ∙ r .next;
         read =
-            λ d two z. one-done (λ (x : ℕ). 2 ≤ size formula x → Good′ x) c unread (λ x y k. kept-push e off handled-within (r .read x k y))
+            λ d two z. one-done (λ (x : ℕ). 2 ≤ size formula x → Good′ x) c unread (λ x y k. guarded-push e off handled-within (r .read x k y))
             (λ k. now) d z two;
         left = left-after;
       }
@@ -367,11 +305,11 @@ module _ (formula : Formula) (s : sound formula ≡ true) (handled q c : ℕ) (u
       q-stays = old-stays e trail off (opposite q) (omega (arith, r .next))
 
       Good′ : ℕ → Type 0
-      Good′ d = KeptAt formula (run .cells) (e ∷ trail) (suc handled) d
+      Good′ d = BothGuardedAt formula (run .cells) (e ∷ trail) (suc handled) d
 
       now : Good′ c
       now =
-          kept-to (here .sides) (e ∷ trail) (suc handled)
+          guarded-to (here .sides) (e ∷ trail) (suc handled)
           (record {
             forth =
                 λ x y. (omega (arith, place-new e trail), omega (arith, level-within (e ∷ trail) other, count-same, q-level, q-stays .1));
@@ -379,8 +317,8 @@ module _ (formula : Formula) (s : sound formula ≡ true) (handled q c : ℕ) (u
           })
 
   conflicts-ended : (made : ℕ) → isFalse trail other ≡ true → scan trail clause (cellOf run c) .found ≡ none
-      → Ended formula (perform formula q c (conflicts made) run)
-  unfolding perform counted withConflict
+      → Ended formula (performAction formula q c (conflicts made) run)
+  unfolding performAction counted withConflict
   conflicts-ended made false-other unfound =
       record {
         valid =
@@ -392,7 +330,7 @@ module _ (formula : Formula) (s : sound formula ≡ true) (handled q c : ℕ) (u
             })
             (λ z. absurd (omega arith))
             (λ d z. rw (same d z) (clause-exists formula c (omega (arith, here .two)), clause-false))
-            (λ d z some. propagation (perform formula q c (conflicts made) run) (pending-lowered once some (r .going .pending)) (omega arith));
+            (λ d z some. propagation (performAction formula q c (conflicts made) run) (pending-lowered once some (r .going .pending)) (omega arith));
         loud = rw (ne-eqb (suc c) 0 (λ z. omega arith));
       }
     where
@@ -403,12 +341,12 @@ module _ (formula : Formula) (s : sound formula ≡ true) (handled q c : ℕ) (u
       clause-false x k = ⊎-elim (λ z. rw z false-other) (others-false unfound x k) (alike x other)
 
   -- a visit goes on reading, or ends in a conflict
-  pub visit-outcome : Reading formula handled q unread (visit formula q c run) ⊎ Ended formula (visit formula q c run)
-  unfolding visit perform
+  pub visit-outcome : ReadingList formula handled q unread (visit formula q c run) ⊎ Ended formula (visit formula q c run)
+  unfolding visit performAction
   visit-outcome = go (action-case trail clause (cellOf run c) q)
     where
       go : {a : Action} → Case trail clause (cellOf run c) q a
-          → Reading formula handled q unread (perform formula q c a run) ⊎ Ended formula (perform formula q c a run)
+          → ReadingList formula handled q unread (performAction formula q c a run) ⊎ Ended formula (performAction formula q c a run)
       go (staying t) = inl (stays-reading t)
       go (moving position u f) =
           let found = scan-found trail clause (cellOf run c) position (pointer-within (size formula c) (cellOf run c) (here .watching)) f in

@@ -1,5 +1,5 @@
 -- The watch structure of a run, cells and lists: what it says of a clause in the list that is read, and that a move keeps it.
-use Prim.Native.Nat.{ℕ, suc, _+_, _*_, _≤_, _<_}
+use Prim.Native.Nat.{ℕ, suc, _+_, _≤_, _<_}
 use native.Mathlib.Omega.{arith}
 use mathlib.Core.Bool.{Bool, true, false, cond, _||_}
 use mathlib.Core.List.{List, [], _∷_}
@@ -14,38 +14,11 @@ use Rattle.base.proofs.Bools.{alike, below, neither-left, neither-right}
 use Rattle.base.proofs.Members.{times-same, times-other, times-kept, times-kept-out}
 use Rattle.book.specs.Formula.{Formula, variableOf, sound}
 use Rattle.run.specs.Scan.{Cell, watched}
-use Rattle.run.specs.Run.{clauseOf, size, noCell, listOf, pushFront, without, takeOut, otherWatch, moved}
+use Rattle.run.specs.Run.{clauseOf, size, noCell, listOf, pushFront, without, takeOut, otherWatch, moved, cellAt}
 use Rattle.run.specs.Valid.{Watching, one}
+use Rattle.run.specs.Progress.{firstLiteral, secondLiteral, among, stands, Watched}
 use Rattle.run.proofs.Order.{pushed-first, pushed-elsewhere, pushed-length, taken-out, taken-elsewhere, taken-length}
 use Rattle.run.proofs.Clauses.{clause-exists, literal-listed, literals-apart}
-
-abbrev pub cellAt : List Cell → ℕ → Cell
-cellAt cells c = getD cells c noCell
-
--- the literals of a clause's two watches
-abbrev pub firstLiteral : Formula → List Cell → ℕ → ℕ
-firstLiteral formula cells c = getD (clauseOf formula c) (cellAt cells c .first) 0
-
-abbrev pub secondLiteral : Formula → List Cell → ℕ → ℕ
-secondLiteral formula cells c = getD (clauseOf formula c) (cellAt cells c .second) 0
-
--- how often l is one of two watched literals
-abbrev pub among : ℕ → ℕ → ℕ → ℕ
-among l a b = one (eqb l a) + one (eqb l b)
-
--- `standing` and the structural conditions of a valid run, said of cells and lists alone
-abbrev pub stands : Formula → List Cell → ℕ → ℕ → ℕ
-stands formula cells l c =
-    cond (leb 2 (size formula c))
-    (among l (firstLiteral formula cells c) (secondLiteral formula cells c))
-    0
-
-pub record Watched (formula : Formula) (cells : List Cell) (lists : List (List ℕ)) : Type 0 where
-  pub cells-length : length cells ≡ length (formula .clauses)
-  pub lists-length : length lists ≡ 2 * formula .variables + 2
-  pub watching : (c : ℕ) → 2 ≤ size formula c → Watching (size formula c) (cellAt cells c)
-  pub unwatched : (c : ℕ) → size formula c < 2 → cellAt cells c ≡ noCell
-  pub listed : (l c : ℕ) → times c (listOf lists l) ≡ stands formula cells l c
 
 one-same : {a b : ℕ} → a ≡ b → one (eqb a b) ≡ 1
 one-same {a} {b} e = rw (eq-eqb a b e)

@@ -29,13 +29,13 @@ unfoldable pub refusal : Formula → Call → Run → ℕ
 refusal formula (decision l) run = decideRefusal formula l run
 refusal formula (backtrackBy k) run = backtrackRefusal k run
 
-unfoldable pub perform : Formula → Call → Run → Run
-perform formula (decision l) run = decide formula l run
-perform formula (backtrackBy k) run = backtrack k run
+unfoldable pub performCall : Formula → Call → Run → Run
+performCall formula (decision l) run = decide formula l run
+performCall formula (backtrackBy k) run = backtrack k run
 
 -- One call: a refused one changes nothing.
 unfoldable pub step : Formula → Run → Call → Run
-step formula run call = cond (eqb (refusal formula call run) 0) (perform formula call run) run
+step formula run call = cond (eqb (refusal formula call run) 0) (performCall formula call run) run
 
 unfoldable pub stepAll : Formula → Run → List Call → Run
 stepAll formula run [] = run

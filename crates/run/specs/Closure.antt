@@ -19,8 +19,8 @@ UnitClosed formula S =
     (c l : ℕ) → member l (clauseOf formula c) ≡ true
     → ((m : ℕ) → member m (clauseOf formula c) ≡ true → (m ≡ l → ⊥) → S (opposite m)) → S l
 
-abbrev pub Holds : List ℕ → (ℕ → Type 0) → Type 0
-Holds ds S = (l : ℕ) → member l ds ≡ true → S l
+abbrev pub Contains : List ℕ → (ℕ → Type 0) → Type 0
+Contains ds S = (l : ℕ) → member l ds ≡ true → S l
 
 -- some variable both ways
 abbrev pub BothWays : (ℕ → Type 0) → Type 0

@@ -29,8 +29,11 @@ size formula c = length (clauseOf formula c)
 abbrev pub noCell : Cell
 noCell = record { first = 0; second = 0; pointer = 0 }
 
+abbrev pub cellAt : List Cell → ℕ → Cell
+cellAt cells c = getD cells c noCell
+
 abbrev pub cellOf : Run → ℕ → Cell
-cellOf run c = getD (run .cells) c noCell
+cellOf run c = cellAt (run .cells) c
 
 -- the watch list of a literal: the clauses that watch it, in the order in which they are read
 abbrev pub listOf : List (List ℕ) → ℕ → List ℕ
@@ -125,20 +128,20 @@ counted c made run =
       backtracks = run .backtracks;
     }
 
-unfoldable pub perform : Formula → ℕ → ℕ → Action → Run → Run
-perform formula q c stays run = run
-perform formula q c (moves position made) run =
+unfoldable pub performAction : Formula → ℕ → ℕ → Action → Run → Run
+performAction formula q c stays run = run
+performAction formula q c (moves position made) run =
     counted c made
     (withWatches
     (set (run .cells) c (moved (clauseOf formula c) (cellOf run c) q position))
     (pushFront (takeOut (run .lists) q c) (getD (clauseOf formula c) position 0) c)
     run)
-perform formula q c (implies made) run =
+performAction formula q c (implies made) run =
     counted c made (onTrail (otherWatch (clauseOf formula c) (cellOf run c) q) false run)
-perform formula q c (conflicts made) run = counted c made (withConflict (suc c) run)
+performAction formula q c (conflicts made) run = counted c made (withConflict (suc c) run)
 
 unfoldable pub visit : Formula → ℕ → ℕ → Run → Run
-visit formula q c run = perform formula q c (action (run .trail) (clauseOf formula c) (cellOf run c) q) run
+visit formula q c run = performAction formula q c (action (run .trail) (clauseOf formula c) (cellOf run c) q) run
 
 abbrev pub inConflict : Run → Bool
 inConflict run = not (eqb (run .conflict) 0)

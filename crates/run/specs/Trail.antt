@@ -1,9 +1,10 @@
 -- The trail: the true literals in the order in which they became so, and what it says of literals and levels.
 use Prim.Native.Nat.{ℕ, zero, suc, _+_, _-_, _%_}
 use mathlib.Core.Bool.{Bool, cond, not, _||_}
-use mathlib.Core.List.{List, [], _∷_}
+use mathlib.Core.List.{List, [], _∷_, map}
 use lib.Dec.{eqb}
 use lib.ListN.{length}
+use Rattle.book.specs.Formula.{variableOf}
 
 -- the literal of the same variable with the other sign
 unfoldable pub opposite : ℕ → ℕ
@@ -33,6 +34,10 @@ isFalse trail l = isTrue trail (opposite l)
 
 abbrev pub isAssigned : List Entry → ℕ → Bool
 isAssigned trail l = isTrue trail l || isFalse trail l
+
+-- the variables on a trail
+abbrev pub variablesOn : List Entry → List ℕ
+variablesOn trail = map (λ (e : Entry). variableOf (e .literal)) trail
 
 -- the decisions in force, newest first
 unfoldable pub decisions : List Entry → List ℕ

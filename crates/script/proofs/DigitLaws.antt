@@ -8,7 +8,7 @@ use mathlib.Core.List.{List, [], _∷_, _++_}
 use lib.Dec.{ltb}
 use borrow.Author.Tests.{lt-ltb, le-ltb, ltb-true, ltb-false, eq-eqb, ne-eqb}
 use Rattle.book.specs.Printer.{digits}
-use Rattle.script.specs.Answers.{number, signed}
+use Rattle.script.specs.Answers.{numeral, signed}
 
 one-digit : (places n : ℕ) → n < 10 → digits (suc places) n ≡ (48 + n) ∷ []
 unfolding digits
@@ -31,19 +31,19 @@ digits-enough (suc p) (suc q) n hp hq =
         ∙ ap (λ (ds : List ℕ). ds ++ ((48 + n % 10) ∷ [])) (ih (ltb-false n 10 e))
         ∙ sym (last-digit (suc q) n (ltb-false n 10 e))
 
-pub number-one : (n : ℕ) → n < 10 → number n ≡ (48 + n) ∷ []
-number-one n h = one-digit 19 n h
+pub numeral-one : (n : ℕ) → n < 10 → numeral n ≡ (48 + n) ∷ []
+numeral-one n h = one-digit 19 n h
 
-pub number-more : (n : ℕ) → 10 ≤ n → n < 10 ^ 20 → number n ≡ number (n / 10) ++ ((48 + n % 10) ∷ [])
-number-more n low high =
+pub numeral-more : (n : ℕ) → 10 ≤ n → n < 10 ^ 20 → numeral n ≡ numeral (n / 10) ++ ((48 + n % 10) ∷ [])
+numeral-more n low high =
     last-digit 19 n low
     ∙ ap (λ (ds : List ℕ). ds ++ ((48 + n % 10) ∷ [])) (digits-enough 18 19 (n / 10) (omega arith) (omega arith))
 
 -- a literal by its sign
-pub signed-negative : (l : ℕ) → l % 2 ≡ 1 → signed l ≡ 45 ∷ number (l / 2)
+pub signed-negative : (l : ℕ) → l % 2 ≡ 1 → signed l ≡ 45 ∷ numeral (l / 2)
 unfolding signed
 signed-negative l e = rw (eq-eqb (l % 2) 1 e)
 
-pub signed-positive : (l : ℕ) → (l % 2 ≡ 1 → ⊥) → signed l ≡ number (l / 2)
+pub signed-positive : (l : ℕ) → (l % 2 ≡ 1 → ⊥) → signed l ≡ numeral (l / 2)
 unfolding signed
 signed-positive l e = rw (ne-eqb (l % 2) 1 e)

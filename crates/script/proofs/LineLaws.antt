@@ -1,22 +1,16 @@
 -- What a line asks for, by its first bytes and the number behind them.
-use Prim.Native.Nat.{ℕ, _+_, _*_, _-_, _<_}
+use Prim.Native.Nat.{ℕ, _+_, _*_, _<_}
 use mathlib.Core.Path.{_≡_, refl}
 use mathlib.Core.List.{List, [], _∷_}
 use native.Mathlib.Omega.{arith}
 use borrow.Author.Tests.{eq-eqb, ne-eqb}
-use lib.ListN.{length, getD, take, drop, length-drop}
-use lib.Seq.{take-all}
+use lib.ListN.{length, getD, drop}
 use Rattle.book.specs.Answer.{digitsOf}
-use Rattle.book.specs.declared.bytes.Digits.{Digits}
 use Rattle.book.specs.declared.bytes.Digits.the-variants.{Value, Invalid}
 use Rattle.book.proofs.DecimalLaws.{word-unsigned, word-not-unsigned}
 use Rattle.script.specs.declared.Line.{Line}
 use Rattle.script.specs.declared.Line.the-variants.{Choose, Back, Malformed}
 use Rattle.script.specs.Script.{numbered, backOf, lineOf}
-
--- the answer of `number` at the line behind its first n bytes
-pub digits-behind : (n : ℕ) (line : List ℕ) (d : Digits) → d ≡ digitsOf (take (length line - n) (drop n line)) → d ≡ digitsOf (drop n line)
-digits-behind n line d e = rw (take-all (length line - n) (drop n line) (rw (length-drop n line) (omega arith))) at e
 
 module _ (asks : ℕ → Line) (digits : List ℕ) where
   pub numbered-value : (v : ℕ) → Value v ≡ digitsOf digits → numbered asks digits ≡ asks v
@@ -49,11 +43,11 @@ unfolding lineOf
 line-positive [] h n m = absurd (omega arith)
 line-positive (b ∷ line) h n m = rw (ne-eqb b 45 n, ne-eqb b 98 m)
 
-pub back-none : (line : List ℕ) → length line ≡ 1 → backOf (drop 1 line) ≡ Malformed
+pub back-malformed : (line : List ℕ) → length line ≡ 1 → backOf (drop 1 line) ≡ Malformed
 unfolding backOf
-back-none [] h = refl
-back-none (b ∷ []) h = refl
-back-none (b ∷ c ∷ line) h = absurd (omega arith)
+back-malformed [] h = refl
+back-malformed (b ∷ []) h = refl
+back-malformed (b ∷ c ∷ line) h = absurd (omega arith)
 
 pub back-unparted : (line : List ℕ) → (getD line 1 0 ≡ 32 → ⊥) → backOf (drop 1 line) ≡ Malformed
 unfolding backOf

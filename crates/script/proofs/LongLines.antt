@@ -9,14 +9,14 @@ use lib.Dec.{eqb, leb}
 use lib.ListN.{length, take}
 use lib.Seq.{take-all, length-take-le}
 use Rattle.book.specs.Formula.{positive, negative}
-use Rattle.book.proofs.DecimalLaws.{too-long}
+use Rattle.book.proofs.DecimalLaws.{word-too-long}
 use Rattle.script.specs.declared.Line.{Line}
 use Rattle.script.specs.declared.Line.the-variants.{Choose, Back, Malformed}
 use Rattle.script.specs.Script.{numbered, backOf, lineOf}
 use Rattle.script.proofs.LineLaws.{numbered-invalid}
 
 long-number : (asks : ℕ → Line) (digits : List ℕ) → 9 < length digits → numbered asks digits ≡ Malformed
-long-number asks digits h = numbered-invalid asks digits (too-long digits h)
+long-number asks digits h = numbered-invalid asks digits (word-too-long digits h)
 
 long-back : (bytes : List ℕ) → 10 < length bytes → backOf bytes ≡ Malformed
 unfolding backOf

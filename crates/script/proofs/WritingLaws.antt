@@ -9,9 +9,9 @@ use lib.Seq.{take-all, take-append-le, drop-cons, set-at, take-suc, append-snoc}
 use Rattle.base.specs.Lists.{copied}
 use Rattle.script.specs.Buffer.{fitting}
 use Rattle.script.specs.Answers.{signed, listed}
-use Rattle.script.specs.Inner.Writing.{Written, Appends}
+use Rattle.script.specs.Inner.Writing.{BytesWritten, Appends}
 
-module _ (buffer bytes now : List ℕ) (at : ℕ) (w : Written buffer bytes now at) where
+module _ (buffer bytes now : List ℕ) (at : ℕ) (w : BytesWritten buffer bytes now at) where
   length-written : length now ≡ length buffer
   unfolding copied
   length-written =
@@ -22,9 +22,9 @@ module _ (buffer bytes now : List ℕ) (at : ℕ) (w : Written buffer bytes now 
   at-end = w .end ∙ length-take (length buffer) bytes
 
   -- a full buffer stays
-  written-full : (more : List ℕ) → length now ≤ at → Written buffer (bytes ++ more) now at
+  bytes-written-full : (more : List ℕ) → length now ≤ at → BytesWritten buffer (bytes ++ more) now at
   unfolding copied
-  written-full more h =
+  bytes-written-full more h =
       let over : length buffer ≤ length bytes = omega (arith, length-written, at-end) in
       let same : take (length buffer) (bytes ++ more) ≡ take (length buffer) bytes = take-append-le (length buffer) bytes more over in
       let none : drop (length bytes) buffer ≡ [] = drop-of-length-le buffer over in
@@ -33,9 +33,9 @@ module _ (buffer bytes now : List ℕ) (at : ℕ) (w : Written buffer bytes now 
       record { holds = rw (same, none-more) (w .holds ∙ rw none); end = rw same (w .end) }
 
   -- one byte more
-  written-more : (byte : ℕ) → at < length now → Written buffer (bytes ++ (byte ∷ [])) (set now at byte) (at + 1)
+  bytes-written-more : (byte : ℕ) → at < length now → BytesWritten buffer (bytes ++ (byte ∷ [])) (set now at byte) (at + 1)
   unfolding copied
-  written-more byte h =
+  bytes-written-more byte h =
       let room : length bytes < length buffer = omega (arith, length-written, at-end) in
       let here : length bytes ≡ at = omega (arith, at-end) in
       let longer : length (bytes ++ (byte ∷ [])) ≡ suc (length bytes) = length-append bytes (byte ∷ []) ∙ omega arith in
@@ -56,11 +56,11 @@ module _ (before : List ℕ) (at : ℕ) where
   appends-none = record { same-length = refl; more = λ buffer so-far w. rw append-nil w }
 
   pub appends-full : (byte : ℕ) → length before ≤ at → Appends before at before at (byte ∷ [])
-  appends-full byte h = record { same-length = refl; more = λ buffer so-far w. written-full buffer so-far before at w (byte ∷ []) h }
+  appends-full byte h = record { same-length = refl; more = λ buffer so-far w. bytes-written-full buffer so-far before at w (byte ∷ []) h }
 
   pub appends-one : (byte : ℕ) → at < length before → Appends before at (set before at byte) (at + 1) (byte ∷ [])
   appends-one byte h =
-      record { same-length = length-set before at byte; more = λ buffer so-far w. written-more buffer so-far before at w byte h }
+      record { same-length = length-set before at byte; more = λ buffer so-far w. bytes-written-more buffer so-far before at w byte h }
 
 pub appends-both : {before middle after xs ys : List ℕ} {at end r : ℕ} → Appends before at middle end xs → Appends middle end after r ys
     → Appends before at after r (xs ++ ys)
@@ -74,9 +74,9 @@ pub appends-as : {before after xs ys : List ℕ} {at r : ℕ} → xs ≡ ys → 
 appends-as e a = rw e at a
 
 -- nothing is written yet
-written-none : (buffer : List ℕ) → Written buffer [] buffer 0
+bytes-written-none : (buffer : List ℕ) → BytesWritten buffer [] buffer 0
 unfolding copied
-written-none buffer =
+bytes-written-none buffer =
     let none : take {A = ℕ} (length buffer) [] ≡ [] = take-all (length buffer) [] (omega arith) in
     record { holds = rw none; end = rw none }
 
@@ -85,7 +85,7 @@ pub line-written : {buffer after line : List ℕ} {r : ℕ} → Appends buffer 0
     → (r ≡ fitting line buffer) × (after ≡ copied line buffer)
 unfolding fitting copied
 line-written {buffer = buffer} {after = after} {line = line} {r = r} a =
-    let w : Written buffer line after r = a .more buffer [] (written-none buffer) in
+    let w : BytesWritten buffer line after r = a .more buffer [] (bytes-written-none buffer) in
     (w .end, w .holds)
 
 -- the first i bytes of a source are written

@@ -17,12 +17,12 @@ bytes ends = []
 bytes (c then s) = code c ∷ bytes s
 
 -- a number of at most 64 bits in decimal
-abbrev pub number : ℕ → List ℕ
-number n = digits 20 n
+abbrev pub numeral : ℕ → List ℕ
+numeral n = digits 20 n
 
 -- a literal as a signed variable: `-` before it if it is negative
 unfoldable pub signed : ℕ → List ℕ
-signed literal = cond (eqb (literal % 2) 1) (45 ∷ number (variableOf literal)) (number (variableOf literal))
+signed literal = cond (eqb (literal % 2) 1) (45 ∷ numeral (variableOf literal)) (numeral (variableOf literal))
 
 -- the literals, each behind one blank, then the end of the line
 unfoldable pub listed : List ℕ → List ℕ
@@ -36,21 +36,21 @@ callWords (Decision literal) = bytes "choose " ++ signed literal
 
 -- a call that propagated without a conflict: how many literals it implied, and each of them
 unfoldable pub impliedLine : Cause → List ℕ → List ℕ
-impliedLine cause literals = callWords cause ++ (bytes " forced " ++ (number (length literals) ++ (58 ∷ listed literals)))
+impliedLine cause literals = callWords cause ++ (bytes " forced " ++ (numeral (length literals) ++ (58 ∷ listed literals)))
 
 -- a call that ended in a conflict: the conflict clause's name
 unfoldable pub clauseLine : Cause → ℕ → List ℕ
-clauseLine cause clause = callWords cause ++ (bytes " rule " ++ (number clause ++ (10 ∷ [])))
+clauseLine cause clause = callWords cause ++ (bytes " rule " ++ (numeral clause ++ (10 ∷ [])))
 
 -- an accepted backtrack
 unfoldable pub backLine : ℕ → List ℕ
-backLine k = bytes "back " ++ (number k ++ (10 ∷ []))
+backLine k = bytes "back " ++ (numeral k ++ (10 ∷ []))
 
 unfoldable pub refusedLine : ℕ → List ℕ
-refusedLine refusal = bytes "refused " ++ (number refusal ++ (10 ∷ []))
+refusedLine refusal = bytes "refused " ++ (numeral refusal ++ (10 ∷ []))
 
 -- the last line: decisions in force, accepted backtracks, total checks
 unfoldable pub endLine : ℕ → ℕ → ℕ → List ℕ
 endLine decisions backtracks checks =
-    bytes "end choices " ++ (number decisions
-    ++ (bytes " backs " ++ (number backtracks ++ (bytes " checks " ++ (number checks ++ (10 ∷ []))))))
+    bytes "end choices " ++ (numeral decisions
+    ++ (bytes " backs " ++ (numeral backtracks ++ (bytes " checks " ++ (numeral checks ++ (10 ∷ []))))))

@@ -2,7 +2,7 @@
 ghost use mathlib.Core.Path.{_≡_};
 ghost use Prim.Native.Nat.{_+_, _<_};
 ghost use mathlib.Core.List.{[], _∷_};
-ghost use Rattle.script.specs.Answers.{number, signed, listed, callWords};
+ghost use Rattle.script.specs.Answers.{numeral, signed, listed, callWords};
 ghost use Rattle.script.specs.Inner.Writing.{Appends};
 use crate::Cause;
 
@@ -42,7 +42,7 @@ fn digit(n: u64) -> u8
 }
 
 pub(crate) fn put_number(n: u64, at: usize, out: &mut [u8]) -> usize
-    ensures { λ r. ⌜ Appends (now (out .entry)) at (now (out .exit)) r (number n) ⌝ }
+    ensures { λ r. ⌜ Appends (now (out .entry)) at (now (out .exit)) r (numeral n) ⌝ }
 {
     if n < 10 {
         return put(digit(n), at, out);

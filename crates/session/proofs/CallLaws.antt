@@ -12,55 +12,55 @@ use Rattle.book.specs.Formula.{Formula}
 use Rattle.book.specs.Numbers.{wellFormed, formulaOf}
 use Rattle.book.proofs.WellFormedLaws.{well-formed-sound}
 use Rattle.run.specs.Run.{Run, openRun, decide, backtrack}
-use Rattle.run.specs.Calls.{Call, decision, backtrackBy, decideRefusal, backtrackRefusal, refusal, perform, step, stepAll, reference}
+use Rattle.run.specs.Calls.{Call, decision, backtrackBy, decideRefusal, backtrackRefusal, refusal, performCall, step, stepAll, reference}
 use Rattle.run.specs.Valid.{Valid}
 use Rattle.run.proofs.Theorems.{open-valid, step-valid}
-use Rattle.session.specs.Layout.{requiredLength, encode, held}
-use Rattle.session.specs.Validation.{passes}
-use Rattle.session.specs.Outcomes.{after, openRefusal, openNumbers, callRefusal, decisionRefusal, decideNumbers, sessionBacktrackRefusal, backtrackNumbers, callNumbers, playedNumbers, replayNumbers}
-use Rattle.session.proofs.EncodeLaws.{length-encode}
-use Rattle.session.proofs.HeldLaws.{held-encode}
-use Rattle.session.proofs.PassLaws.{passes-encode}
+use Rattle.layout.specs.Layout.{requiredLength, encode, held}
+use Rattle.validation.specs.Validation.{passes, callRefusal}
+use Rattle.session.specs.Outcomes.{overwritten, openRefusal, openNumbers, sessionDecideRefusal, decideNumbers, sessionBacktrackRefusal, backtrackNumbers, callNumbers, playedNumbers, replayNumbers}
+use Rattle.layout.proofs.EncodeLaws.{length-encode}
+use Rattle.layout.proofs.HeldLaws.{held-encode}
+use Rattle.validation.proofs.PassLaws.{passes-encode}
 
 -- numbers written anew have the same numbers behind them
-pub after-after : (formula : Formula) (old new : Run) (buffer : List ℕ) → after formula new (after formula old buffer) ≡ after formula new buffer
-unfolding after
-after-after formula old new buffer =
+pub overwritten-again : (formula : Formula) (old new : Run) (buffer : List ℕ) → overwritten formula new (overwritten formula old buffer) ≡ overwritten formula new buffer
+unfolding overwritten
+overwritten-again formula old new buffer =
     ap (λ (rest : List ℕ). encode formula new ++ rest)
     (drop-at (encode formula old) (drop (requiredLength formula) buffer) (requiredLength formula) (length-encode formula old))
 
 module _ (book buffer : List ℕ) (well : wellFormed book ≡ true) (run : Run) (valid : Valid (formulaOf book) run) where
-  pub held-after : held (formulaOf book) (after (formulaOf book) run buffer) ≡ run
-  unfolding after
-  held-after = held-encode (formulaOf book) (well-formed-sound book well) run valid (drop (requiredLength (formulaOf book)) buffer)
+  pub held-overwritten : held (formulaOf book) (overwritten (formulaOf book) run buffer) ≡ run
+  unfolding overwritten
+  held-overwritten = held-encode (formulaOf book) (well-formed-sound book well) run valid (drop (requiredLength (formulaOf book)) buffer)
 
-  pub passes-after : passes (formulaOf book) (after (formulaOf book) run buffer) ≡ true
-  unfolding after
-  passes-after = passes-encode (formulaOf book) (well-formed-sound book well) run valid (drop (requiredLength (formulaOf book)) buffer)
+  pub passes-overwritten : passes (formulaOf book) (overwritten (formulaOf book) run buffer) ≡ true
+  unfolding overwritten
+  passes-overwritten = passes-encode (formulaOf book) (well-formed-sound book well) run valid (drop (requiredLength (formulaOf book)) buffer)
 
   -- a call is refused by what the run itself says
-  pub call-refusal : (own : Run → ℕ) → callRefusal book (after (formulaOf book) run buffer) own ≡ own run
+  pub call-refusal : (own : Run → ℕ) → callRefusal book (overwritten (formulaOf book) run buffer) own ≡ own run
   unfolding callRefusal
-  call-refusal own = rw (well, passes-after) (ap own held-after)
+  call-refusal own = rw (well, passes-overwritten) (ap own held-overwritten)
 
   -- a call leaves the numbers of the run's next step
   chosen : (b : Bool) (next : Run)
-      → cond b (after (formulaOf book) next (after (formulaOf book) run buffer)) (after (formulaOf book) run buffer)
-      ≡ after (formulaOf book) (cond b next run) buffer
-  chosen true next = after-after (formulaOf book) run next buffer
+      → cond b (overwritten (formulaOf book) next (overwritten (formulaOf book) run buffer)) (overwritten (formulaOf book) run buffer)
+      ≡ overwritten (formulaOf book) (cond b next run) buffer
+  chosen true next = overwritten-again (formulaOf book) run next buffer
   chosen false next = refl
 
-  pub call-numbers : (call : Call) → callNumbers book (after (formulaOf book) run buffer) call ≡ after (formulaOf book) (step (formulaOf book) run call) buffer
-  unfolding callNumbers decideNumbers decisionRefusal backtrackNumbers sessionBacktrackRefusal step refusal perform
+  pub call-numbers : (call : Call) → callNumbers book (overwritten (formulaOf book) run buffer) call ≡ overwritten (formulaOf book) (step (formulaOf book) run call) buffer
+  unfolding callNumbers decideNumbers sessionDecideRefusal backtrackNumbers sessionBacktrackRefusal step refusal performCall
   call-numbers (decision l) =
-      rw (call-refusal (decideRefusal (formulaOf book) l), held-after)
+      rw (call-refusal (decideRefusal (formulaOf book) l), held-overwritten)
       (chosen (eqb (decideRefusal (formulaOf book) l run) 0) (decide (formulaOf book) l run))
   call-numbers (backtrackBy k) =
-      rw (call-refusal (backtrackRefusal k), held-after)
+      rw (call-refusal (backtrackRefusal k), held-overwritten)
       (chosen (eqb (backtrackRefusal k run) 0) (backtrack k run))
 
 pub played : (book buffer : List ℕ) → wellFormed book ≡ true → (calls : List Call) (run : Run) → Valid (formulaOf book) run
-    → playedNumbers book (after (formulaOf book) run buffer) calls ≡ after (formulaOf book) (stepAll (formulaOf book) run calls) buffer
+    → playedNumbers book (overwritten (formulaOf book) run buffer) calls ≡ overwritten (formulaOf book) (stepAll (formulaOf book) run calls) buffer
 unfolding playedNumbers stepAll
 played book buffer well [] run valid = refl
 played book buffer well (call ∷ calls) run valid =
@@ -79,7 +79,7 @@ open-accepted book room e = go (wellFormed book) (ltb room (requiredLength (form
     go false t p q z = absurd (omega arith)
 
 pub replayed : (book buffer : List ℕ) (calls : List Call) → openRefusal book (length buffer) ≡ 0
-    → replayNumbers book calls buffer ≡ after (formulaOf book) (reference (formulaOf book) calls) buffer
+    → replayNumbers book calls buffer ≡ overwritten (formulaOf book) (reference (formulaOf book) calls) buffer
 unfolding replayNumbers openNumbers reference
 replayed book buffer calls e =
     let well : wellFormed book ≡ true = open-accepted book (length buffer) e .0 in

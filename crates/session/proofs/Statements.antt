@@ -13,13 +13,14 @@ use Rattle.run.specs.Calls.{Call, step, reference}
 use Rattle.run.specs.Valid.{Valid}
 use Rattle.run.proofs.Theorems.{open-valid, step-valid, reference-valid, assigned-is-closure, conflict-is-both-ways, conflict-clause-false}
 use Rattle.run.proofs.Ceiling.{ceiling-in-period, ceiling-in-all, units-cost-nothing}
-use Rattle.session.specs.Layout.{held}
-use Rattle.session.specs.Outcomes.{after, readRefusal, totalAnswer, openNumbers, callNumbers, openRefusal}
+use Rattle.layout.specs.Layout.{held}
+use Rattle.session.specs.Outcomes.{overwritten, totalAnswer, openNumbers, callNumbers, openRefusal}
+use Rattle.validation.specs.Validation.{readRefusal}
 use Rattle.session.specs.Statement.{Statement2, Statement3}
 use Rattle.session.specs.declared.Sum.the-variants.{Checks}
-use Rattle.session.proofs.EncodeLaws.{encodes-whole}
-use Rattle.session.proofs.CallLaws.{held-after, passes-after, call-refusal, call-numbers, open-accepted, replayed}
-use Rattle.session.proofs.PublicLaws.{well, facts}
+use Rattle.layout.proofs.EncodeLaws.{encodes-whole}
+use Rattle.session.proofs.CallLaws.{held-overwritten, passes-overwritten, call-refusal, call-numbers, open-accepted, replayed}
+use Rattle.session.proofs.PassedLaws.{well, facts}
 
 pub statement-2 : (book session : List ℕ) → readRefusal book session ≡ 0 → Statement2 book session
 statement-2 book session e =
@@ -41,8 +42,8 @@ open-passes book buffer e =
 
 module _ (book session : List ℕ) (e : readRefusal book session ≡ 0) where
   -- a session that passes is the encoding of what it holds, and what lies behind
-  whole : session ≡ after (formulaOf book) (held (formulaOf book) session) session
-  unfolding after
+  whole : session ≡ overwritten (formulaOf book) (held (formulaOf book) session) session
+  unfolding overwritten
   whole =
       encodes-whole (formulaOf book) (well-formed-sound book (well book session (sym e))) (held (formulaOf book) session)
       (facts book session (sym e) .0) session (facts book session (sym e) .1)
@@ -53,16 +54,16 @@ module _ (book session : List ℕ) (e : readRefusal book session ≡ 0) where
       let ok = well book session (sym e) in
       let run = held (formulaOf book) session in
       let valid = facts book session (sym e) .0 in
-      let next : callNumbers book session call ≡ after (formulaOf book) (step (formulaOf book) run call) session =
+      let next : callNumbers book session call ≡ overwritten (formulaOf book) (step (formulaOf book) run call) session =
       ap (λ (numbers : List ℕ). callNumbers book numbers call) whole ∙ call-numbers book session ok run valid call in
       rw next
       (call-refusal book session ok (step (formulaOf book) run call) (step-valid (formulaOf book) run (well-formed-sound book ok) call valid) (λ (r : Run). 0))
 
 total-after : (book buffer : List ℕ) → wellFormed book ≡ true → (run : Run) → Valid (formulaOf book) run
-    → totalAnswer book (after (formulaOf book) run buffer) ≡ Checks (sum (run .checks))
+    → totalAnswer book (overwritten (formulaOf book) run buffer) ≡ Checks (sum (run .checks))
 unfolding totalAnswer readRefusal
 total-after book buffer well run valid =
-    rw (call-refusal book buffer well run valid (λ (r : Run). 0), held-after book buffer well run valid)
+    rw (call-refusal book buffer well run valid (λ (r : Run). 0), held-overwritten book buffer well run valid)
 
 pub statement-3 : (book buffer : List ℕ) (calls : List Call) → openRefusal book (length buffer) ≡ 0 → Statement3 book buffer calls
 statement-3 book buffer calls e =
@@ -71,10 +72,10 @@ statement-3 book buffer calls e =
     let valid = reference-valid (formulaOf book) s calls in
     let is = replayed book buffer calls e in
     record {
-      holds = ap (held (formulaOf book)) is ∙ held-after book buffer well (reference (formulaOf book) calls) valid;
+      holds = ap (held (formulaOf book)) is ∙ held-overwritten book buffer well (reference (formulaOf book) calls) valid;
       numbers = is;
       book-passes = well;
-      session-passes = rw is (passes-after book buffer well (reference (formulaOf book) calls) valid);
+      session-passes = rw is (passes-overwritten book buffer well (reference (formulaOf book) calls) valid);
       total = rw is (total-after book buffer well (reference (formulaOf book) calls) valid);
       in-period = ceiling-in-period (formulaOf book) s calls;
       in-all = ceiling-in-all (formulaOf book) s calls;

@@ -1,6 +1,4 @@
--- The definitions of `session`: the layout of the numbers, the validation, the outcomes of the calls. No public promise rests on `Inner`.
-pub mod Layout
-pub mod Validation
+-- The definitions of `session`: the outcomes of the calls, statements 2 and 3. No public promise rests on `Inner`.
 pub mod Outcomes
 pub mod Statement
 pub mod Inner

@@ -1,21 +1,22 @@
 -- `read` meets its contract: each way out is a case of the answer. Assumes nothing.
-use mathlib.Core.Path.{subst, sym}
+use mathlib.Core.Path.{_≡_, subst, sym}
 use native.Mathlib.Omega.{arith}
 use Rattle.book.specs.Inner.Bodies.{ParsedSays, Read}
+use Rattle.book.specs.declared.parse.Parsed.{Parsed}
 use Rattle.book.proofs.FaultLaws.{too-long}
 use Rattle.book.proofs.ReadLaws.{answer-refused, read-walked, read-short, read-book}
 use borrow.Author.Needs.{needs}
 use Rattle.book.proofs.read.Statement.{statement}
 use Rattle.book.proofs.read.Tie as tie
-use Rattle.book.proofs.read.Reads as reads
-use Rattle.book.proofs.read.Lts as lts
-use Rattle.book.proofs.form.wide.Reads as wide-reads
-use Rattle.book.proofs.parse.copy.Reads as copy-reads
-use Rattle.book.proofs.parse.parse.Reads as parse-reads
 
 -- the book that was read
-book-read : (c : tie.After-variables) → Read (c .before .before .before .before .before .before .before .args .text .now) (c .before .before .parse .last .1 .0) (c .variables .given .0 .0) (c .variables .given .0 .1 .0) (c .variables .given .0 .1 .1 .0)
-book-read c = subst (ParsedSays (c .before .before .before .before .before .before .before .args .text .now) (c .before .before .parse .last .1 .0)) (c .variables .given .1) (c .before .before .parse .ensures)
+parsed : (c : tie.After-parse) {p : Parsed} → c .parse .result ≡ p → ParsedSays (c .before .before .before .before .before .args .text .now) (c .parse .last .1 .0) p
+parsed c e = subst (ParsedSays (c .before .before .before .before .before .args .text .now) (c .parse .last .1 .0)) e (c .parse .ensures)
+
+book-read : (c : tie.After-variables)
+    → Read (c .before .before .before .before .before .before .before .args .text .now) (c .before .before .parse .last .1 .0) (c .variables .given .0 .0) (c .variables .given .0 .1 .0)
+    (c .variables .given .0 .1 .1 .0)
+book-read c = parsed (c .before .before) (c .variables .given .1)
 
 returns : tie.Need-returns
 returns c = answer-refused _ (c .before .before .before .args .out .now) 1 (too-long (c .before .before .before .args .text .now) (c .if1 .taken))
@@ -42,7 +43,7 @@ add-length-2 : tie.Need-add-length-2
 add-length-2 c = search needs
 
 returns-2 : tie.Need-returns-2
-returns-2 c = read-short (c .before .before .before .before .before .before .before .before .before .before .before .args .text .now) _ _ _ _ (book-read (c .before .before .before .before)) (c .before .before .before .before .before .before .before .before .if1 .left) (c .before .before .before .before .before .before .before .before .before .before .before .args .out .now) (omega (arith, c .before .before .wide .ensures .0, c .before .wide2 .ensures .0, c .if2 .taken))
+returns-2 c = read-short (book-read (c .before .before .before .before)) (c .before .before .before .before .before .before .before .before .if1 .left) (c .before .before .before .before .before .before .before .before .before .before .before .args .out .now) (omega arith)
 
 slice-aggregate-copy : tie.Need-slice-aggregate-copy
 slice-aggregate-copy c = sym (book-read (c .before .before .before .before .before) .long)
@@ -51,7 +52,7 @@ copy-requires : tie.Need-copy-requires
 copy-requires c κs = (omega (arith, c .before .before .before .before .wide .ensures .0, c .before .before .before .wide2 .ensures .0, book-read (c .before .before .before .before .before .before) .long, book-read (c .before .before .before .before .before .before) .few-clauses, book-read (c .before .before .before .before .before .before) .few-literals), c .before .before .if2 .left)
 
 returns-3 : tie.Need-returns-3
-returns-3 c = answer-refused _ (c .before .before .before .before .before .before .before .before .args .out .now) _ (read-walked (c .before .before .before .before .before .before .before .before .args .text .now) _ (c .before .before .before .before .before .if1 .left) (subst (ParsedSays (c .before .before .before .before .before .before .before .before .args .text .now) (c .before .before .before .parse .last .1 .0)) (c .before .number .given .1) (c .before .before .before .parse .ensures)))
+returns-3 c = answer-refused _ (c .before .before .before .before .before .before .before .before .args .out .now) _ (read-walked (c .before .before .before .before .before .before .before .before .args .text .now) _ (c .before .before .before .before .before .if1 .left) (parsed (c .before .before .before) (c .before .number .given .1)))
 
 same-length : tie.Need-same-length
 same-length c = search needs
@@ -59,7 +60,7 @@ same-length c = search needs
 returns-4 : tie.Need-returns-4
 returns-4 c =
     rw (c .before .before .copy .ensures, c .before .before .before .before .before .before .before .wide .ensures .0, c .before .before .before .before .before .before .wide2 .ensures .0)
-    (read-book (c .before .before .before .before .before .before .before .before .before .before .before .before .before .before .before .before .args .text .now) _ _ _ _ (book-read (c .before .before .before .before .before .before .before .before .before)) (c .before .before .before .before .before .before .before .before .before .before .before .before .before .if1 .left) (c .before .before .before .before .before .before .before .before .before .before .before .before .before .before .before .before .args .out .now) (omega (arith, c .before .before .before .before .before .before .before .wide .ensures .0, c .before .before .before .before .before .before .wide2 .ensures .0, c .before .before .before .before .before .if2 .left)))
+    (read-book (book-read (c .before .before .before .before .before .before .before .before .before)) (c .before .before .before .before .before .before .before .before .before .before .before .before .before .if1 .left) (c .before .before .before .before .before .before .before .before .before .before .before .before .before .before .before .before .args .out .now) (omega arith))
 
 pub read-spec : {M : Type 1} → statement M
 read-spec =

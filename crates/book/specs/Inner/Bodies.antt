@@ -6,7 +6,7 @@ use mathlib.Core.List.{List, [], _++_}
 use lib.Dec.{leb, ltb, eqb}
 use lib.ListN.{length, take, drop}
 use Rattle.base.specs.Lists.{flat}
-use Rattle.book.specs.Formula.{Formula, literals, variableOf, maxClause, maxLiterals}
+use Rattle.book.specs.Formula.{Formula, literals, variableOf, maxClause, maxLiterals, maxBook, maxClauses}
 use Rattle.book.specs.Numbers.{starts, numbersOf}
 use Rattle.book.specs.Text.{linesOf}
 use Rattle.book.specs.Reading.{refused, accepted}
@@ -19,7 +19,7 @@ use Rattle.book.specs.declared.parse.Parsed.the-variants as p
 
 -- the numbers hold the starts of the closed clauses and of the open one, and the literals of both
 pub record Written (numbers : List ℕ) (clauses : ℕ) (done : List (List ℕ)) (current : List ℕ) : Type 0 where
-  pub long : length numbers ≡ 7504
+  pub long : length numbers ≡ maxBook
   pub starts-written : take (suc (length done)) (drop 3 numbers) ≡ starts 0 done
   pub literals-written : take (length (flat done ++ current)) (drop (clauses + 4) numbers) ≡ flat done ++ current
 
@@ -48,9 +48,9 @@ pub record Read (text numbers : List ℕ) (variables clauses total : ℕ) : Type
   pub same-variables : formula .variables ≡ variables
   pub same-clauses : length (formula .clauses) ≡ clauses
   pub same-literals : length (literals formula) ≡ total
-  pub few-clauses : clauses ≤ 1500
-  pub few-literals : total ≤ 6000
-  pub long : length numbers ≡ 7504
+  pub few-clauses : clauses ≤ maxClauses
+  pub few-literals : total ≤ maxLiterals
+  pub long : length numbers ≡ maxBook
   pub front : take (clauses + total + 4) numbers ≡ numbersOf formula
 
 abbrev pub ParsedSays : List ℕ → List ℕ → Parsed → Type 0

@@ -6,7 +6,7 @@ use lib.Dec.{leb, ltb, eqb}
 use lib.ListN.{length}
 use Rattle.base.specs.Lists.{flat, empty, member, keep}
 use Rattle.book.specs.Formula.{variableOf, maxClause, maxLiterals}
-use Rattle.book.specs.Text.{Piece, Token, literal, close, invalid, tokenOf, lineEnd, split, kept, Header, header, malformed, headerOf}
+use Rattle.book.specs.Text.{Piece, Token, literal, close, invalid, tokenOf, lineEnd, split, notSkipped, Header, header, malformed, headerOf}
 use Rattle.book.specs.Faults.{bodyOf, outside}
 use Rattle.book.specs.Reading.{Judged, refused, accepted}
 
@@ -39,4 +39,4 @@ walkLines (line ∷ lines) = walkUnder (headerOf line) (tokensOf (bodyOf lines))
 
 -- the answer to a text whose lines before t are all skipped
 unfoldable pub walkStart : ℕ → List ℕ → Judged
-walkStart at t = walkLines (keep kept (split lineEnd at t))
+walkStart at t = walkLines (keep notSkipped (split lineEnd at t))

@@ -3,7 +3,7 @@ use Prim.Native.Nat.{ℕ, suc}
 use mathlib.Core.Bool.{Bool, cond}
 use mathlib.Core.List.{List, [], _∷_, _++_}
 use Rattle.base.specs.Lists.{keep, until}
-use Rattle.book.specs.Text.{Piece, lineEnd, split, kept, wordsOf}
+use Rattle.book.specs.Text.{Piece, lineEnd, split, notSkipped, wordsOf}
 use Rattle.book.specs.Faults.{bodyOf}
 
 -- the pieces behind the first one
@@ -18,13 +18,13 @@ unfoldable pub wordsLine : ℕ → List ℕ → List Piece
 wordsLine at t = wordsOf (record { place = at; bytes = until lineEnd t })
 
 unfoldable pub wordsBehind : ℕ → List ℕ → List Piece
-wordsBehind at t = bodyOf (keep kept (others lineEnd at t))
+wordsBehind at t = bodyOf (keep notSkipped (others lineEnd at t))
 
 unfoldable pub wordsHere : ℕ → List ℕ → List Piece
 wordsHere at t = wordsLine at t ++ wordsBehind at t
 
 unfoldable pub wordsStart : ℕ → List ℕ → List Piece
-wordsStart at t = bodyOf (keep kept (split lineEnd at t))
+wordsStart at t = bodyOf (keep notSkipped (split lineEnd at t))
 
 -- how many bytes the line holds with its byte 10
 unfoldable pub lineLength : List ℕ → ℕ

@@ -4,43 +4,31 @@ use Rattle.capi.specs.Codes.{assignedCode}
 use borrow.Author.Needs.{needs}
 use Rattle.capi.proofs.assigned_code.Statement.{statement}
 use Rattle.capi.proofs.assigned_code.Tie as tie
-use Rattle.capi.proofs.assigned_code.Reads as reads
-use Rattle.capi.proofs.assigned_code.Lts as lts
-use Rattle.capi.proofs.refusal.Reads as refusal-reads
 
--- src/lib.rt:52:36
 enum-told : tie.Need-enum-told
 enum-told c = search needs
 
--- src/lib.rt:53:40
 enum-told-2 : tie.Need-enum-told-2
 enum-told-2 c = search needs
 
--- src/lib.rt:54:40
 enum-told-3 : tie.Need-enum-told-3
 enum-told-3 c = search needs
 
--- src/lib.rt:55:36
 enum-known-assigned : tie.Need-enum-known-assigned
 enum-known-assigned c = search needs
 
--- src/lib.rt:55:47
 refusal-requires : tie.Need-refusal-requires
 refusal-requires c κs = search needs
 
--- src/lib.rt:48:1
 returns : tie.Need-returns
 returns c = sym (ap assignedCode (c .enum-told .given .1))
 
--- src/lib.rt:48:1
 returns-2 : tie.Need-returns-2
 returns-2 c = sym (ap assignedCode (c .enum-told2 .given .1))
 
--- src/lib.rt:48:1
 returns-3 : tie.Need-returns-3
 returns-3 c = sym (ap assignedCode (c .enum-told3 .given .1))
 
--- src/lib.rt:48:1
 returns-4 : tie.Need-returns-4
 returns-4 c = c .refusal .ensures ∙ sym (ap assignedCode (c .before .before .assigned .given .1))
 

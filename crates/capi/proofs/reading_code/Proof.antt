@@ -4,27 +4,19 @@ use Rattle.capi.specs.Codes.{readingCode}
 use borrow.Author.Needs.{needs}
 use Rattle.capi.proofs.reading_code.Statement.{statement}
 use Rattle.capi.proofs.reading_code.Tie as tie
-use Rattle.capi.proofs.reading_code.Reads as reads
-use Rattle.capi.proofs.reading_code.Lts as lts
-use Rattle.capi.proofs.refusal.Reads as refusal-reads
 
--- src/lib.rt:24:14
 enum-told : tie.Need-enum-told
 enum-told c = search needs
 
--- src/lib.rt:25:32
 enum-known-reading : tie.Need-enum-known-reading
 enum-known-reading c = search needs
 
--- src/lib.rt:25:43
 refusal-requires : tie.Need-refusal-requires
 refusal-requires c κs = search needs
 
--- src/lib.rt:16:1
 returns : tie.Need-returns
 returns c = sym (ap readingCode (c .enum-told .given .1))
 
--- src/lib.rt:16:1
 returns-2 : tie.Need-returns-2
 returns-2 c = c .refusal .ensures ∙ sym (ap readingCode (c .before .before .reading .given .1))
 

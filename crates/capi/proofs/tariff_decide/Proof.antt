@@ -4,24 +4,16 @@ use Rattle.capi.specs.Codes.{answerCode}
 use borrow.Author.Needs.{needs}
 use Rattle.capi.proofs.tariff_decide.Statement.{statement}
 use Rattle.capi.proofs.tariff_decide.Tie as tie
-use Rattle.capi.proofs.tariff_decide.Reads as reads
-use Rattle.capi.proofs.tariff_decide.Lts as lts
-use Rattle.capi.proofs.answer_code.Reads as answer-code-reads
-use Rattle.session.proofs.decide.Reads as decide-reads
 
--- src/lib.rt:100:17
 decide-requires : tie.Need-decide-requires
 decide-requires c κs = search needs
 
--- src/lib.rt:100:5
 answer-code-requires : tie.Need-answer-code-requires
 answer-code-requires c κs = search needs
 
--- src/lib.rt:95:1
 same-length : tie.Need-same-length
 same-length c = search needs
 
--- src/lib.rt:95:1
 returns : tie.Need-returns
 returns c = (c .answer-code .ensures ∙ ap answerCode (c .before .before .before .decide .ensures .0), c .before .before .before .decide .ensures .1)
 

@@ -4,20 +4,13 @@ use Rattle.capi.specs.Codes.{assignedCode}
 use borrow.Author.Needs.{needs}
 use Rattle.capi.proofs.tariff_lookup.Statement.{statement}
 use Rattle.capi.proofs.tariff_lookup.Tie as tie
-use Rattle.capi.proofs.tariff_lookup.Reads as reads
-use Rattle.capi.proofs.tariff_lookup.Lts as lts
-use Rattle.capi.proofs.assigned_code.Reads as assigned-code-reads
-use Rattle.session.proofs.lookup.Reads as lookup-reads
 
--- src/lib.rt:117:19
 lookup-requires : tie.Need-lookup-requires
 lookup-requires c κs = search needs
 
--- src/lib.rt:117:5
 assigned-code-requires : tie.Need-assigned-code-requires
 assigned-code-requires c κs = search needs
 
--- src/lib.rt:113:1
 returns : tie.Need-returns
 returns c = c .assigned-code .ensures ∙ ap assignedCode (c .before .lookup .ensures)
 

@@ -4,24 +4,16 @@ use Rattle.capi.specs.Codes.{answerCode}
 use borrow.Author.Needs.{needs}
 use Rattle.capi.proofs.tariff_open.Statement.{statement}
 use Rattle.capi.proofs.tariff_open.Tie as tie
-use Rattle.capi.proofs.tariff_open.Reads as reads
-use Rattle.capi.proofs.tariff_open.Lts as lts
-use Rattle.capi.proofs.answer_code.Reads as answer-code-reads
-use Rattle.session.proofs.open.Reads as open-reads
 
--- src/lib.rt:91:17
 open-requires : tie.Need-open-requires
 open-requires c κs = search needs
 
--- src/lib.rt:91:5
 answer-code-requires : tie.Need-answer-code-requires
 answer-code-requires c κs = search needs
 
--- src/lib.rt:86:1
 same-length : tie.Need-same-length
 same-length c = search needs
 
--- src/lib.rt:86:1
 returns : tie.Need-returns
 returns c = (c .answer-code .ensures ∙ ap answerCode (c .before .before .before .«open» .ensures .0), c .before .before .before .«open» .ensures .1)
 

@@ -4,24 +4,16 @@ use Rattle.capi.specs.Codes.{readingCode}
 use borrow.Author.Needs.{needs}
 use Rattle.capi.proofs.tariff_read.Statement.{statement}
 use Rattle.capi.proofs.tariff_read.Tie as tie
-use Rattle.capi.proofs.tariff_read.Reads as reads
-use Rattle.capi.proofs.tariff_read.Lts as lts
-use Rattle.book.proofs.read.Reads as read-reads
-use Rattle.capi.proofs.reading_code.Reads as reading-code-reads
 
--- src/lib.rt:74:18
 read-requires : tie.Need-read-requires
 read-requires c κs = search needs
 
--- src/lib.rt:74:5
 reading-code-requires : tie.Need-reading-code-requires
 reading-code-requires c κs = search needs
 
--- src/lib.rt:69:1
 same-length : tie.Need-same-length
 same-length c = search needs
 
--- src/lib.rt:69:1
 returns : tie.Need-returns
 returns c = (c .reading-code .ensures ∙ ap readingCode (c .before .before .before .read .ensures .0), c .before .before .before .read .ensures .1)
 

@@ -6,34 +6,24 @@ use Rattle.capi.specs.Codes.{sumCode, sumAfter}
 use borrow.Author.Needs.{needs}
 use Rattle.capi.proofs.tariff_total.Statement.{statement}
 use Rattle.capi.proofs.tariff_total.Tie as tie
-use Rattle.capi.proofs.tariff_total.Reads as reads
-use Rattle.capi.proofs.tariff_total.Lts as lts
-use Rattle.capi.proofs.refusal.Reads as refusal-reads
-use Rattle.session.proofs.total.Reads as total-reads
 
--- src/lib.rt:135:11
 total-requires : tie.Need-total-requires
 total-requires c κs = search needs
 
--- src/lib.rt:136:30
 enum-known-checks : tie.Need-enum-known-checks
 enum-known-checks c = search needs
 
--- src/lib.rt:140:31
 enum-known-number : tie.Need-enum-known-number
 enum-known-number c = search needs
 
--- src/lib.rt:140:42
 refusal-requires : tie.Need-refusal-requires
 refusal-requires c κs = search needs
 
--- src/lib.rt:130:1
 returns : tie.Need-returns
 returns c =
     let told = sym (c .before .checks .given .1) ∙ c .before .before .before .total .ensures in
     (ap sumCode told, ap (λ (t : Sum). sumAfter t (now (c .before .before .before .before .before .before .args .sum))) told)
 
--- src/lib.rt:130:1
 returns-2 : tie.Need-returns-2
 returns-2 c =
     let told = sym (c .before .before .number .given .1) ∙ c .before .before .before .before .total .ensures in

@@ -4,10 +4,6 @@ use borrow.Author.Needs.{needs}
 use lib.ListN.{length}
 use Rattle.desk.proofs.answer_all.Statement.{statement}
 use Rattle.desk.proofs.answer_all.Tie as tie
-use Rattle.desk.proofs.answer_all.Reads as reads
-use Rattle.desk.proofs.answer_all.Lts as lts
-use Rattle.desk.proofs.take_byte.Reads as take-byte-reads
-use Rattle.desk.proofs.take_some.Reads as take-some-reads
 
 abbrev Inv-loop : tie.InvT-loop
 Inv-loop book session₀ line₀ kept₀ turns₀ session line kept turns = (length session ≡ length session₀) × (length line ≡ 12)
@@ -15,59 +11,45 @@ Inv-loop book session₀ line₀ kept₀ turns₀ session line kept turns = (len
 abbrev μ-loop : tie.MeasureT-loop
 μ-loop book session₀ line₀ kept₀ turns₀ session line kept turns = turns
 
--- src/main.rt:134:5
 loop-holds : tie.Need-loop-holds Inv-loop μ-loop
 loop-holds c = search needs
 
--- src/main.rt:135:45
 slice-aggregate-take-some : tie.Need-slice-aggregate-take-some Inv-loop μ-loop
 slice-aggregate-take-some c = search needs
 
--- src/main.rt:135:13
 take-some-requires : tie.Need-take-some-requires Inv-loop μ-loop
 take-some-requires c κs = search needs
 
--- src/main.rt:134:5
 loop-less : tie.Need-loop-less Inv-loop μ-loop
 loop-less c = search needs
 
--- src/main.rt:134:5
 loop-again : tie.Need-loop-again Inv-loop μ-loop
 loop-again c = search needs
 
--- src/main.rt:140:13
 sub-turns : tie.Need-sub-turns Inv-loop μ-loop
 sub-turns c = search needs
 
--- src/main.rt:134:5
 loop-less-2 : tie.Need-loop-less-2 Inv-loop μ-loop
 loop-less-2 c = search needs
 
--- src/main.rt:134:5
 loop-again-2 : tie.Need-loop-again-2 Inv-loop μ-loop
 loop-again-2 c = search needs
 
--- src/main.rt:144:34
 slice-aggregate-take-byte : tie.Need-slice-aggregate-take-byte Inv-loop μ-loop
 slice-aggregate-take-byte c = search needs
 
--- src/main.rt:144:9
 take-byte-requires : tie.Need-take-byte-requires Inv-loop μ-loop
 take-byte-requires c κs = search needs
 
--- src/main.rt:130:1
 same-length : tie.Need-same-length Inv-loop μ-loop
 same-length c = search needs
 
--- src/main.rt:130:1
 returns : tie.Need-returns Inv-loop μ-loop
 returns c = search needs
 
--- src/main.rt:130:1
 same-length-2 : tie.Need-same-length-2 Inv-loop μ-loop
 same-length-2 c = search needs
 
--- src/main.rt:130:1
 returns-2 : tie.Need-returns-2 Inv-loop μ-loop
 returns-2 c = search needs
 

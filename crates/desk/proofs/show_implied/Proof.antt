@@ -1,17 +1,13 @@
 -- `show_implied` meets its contract. Assumes nothing.
+use mathlib.Core.List.{List}
 use Prim.Native.Nat.{ℕ}
 use mathlib.Core.Path.{_≡_, sym, _∙_}
 use native.Mathlib.Omega.{arith}
 use lib.ListN.{length}
-use Rattle.desk.proofs.AnsweringLaws.{count-is, trail-few, implied-prints}
+use Rattle.desk.proofs.AnsweringLaws.{run-count, trail-few, implied-prints}
 use borrow.Author.Needs.{needs}
 use Rattle.desk.proofs.show_implied.Statement.{statement}
 use Rattle.desk.proofs.show_implied.Tie as tie
-use Rattle.desk.proofs.show_implied.Reads as reads
-use Rattle.desk.proofs.show_implied.Lts as lts
-use Rattle.desk.proofs.wide.Reads as wide-reads
-use Rattle.script.proofs.write_implied.Reads as write-implied-reads
-use Rattle.session.proofs.trail_from.Reads as trail-from-reads
 
 slice-aggregate-trail-from : tie.Need-slice-aggregate-trail-from
 slice-aggregate-trail-from c = search needs
@@ -25,15 +21,29 @@ enum-told c = search needs
 enum-known-trail : tie.Need-enum-known-trail
 enum-known-trail c = search needs
 
+-- the entry
+abbrev start : (c : tie.After-literals2) → tie.Start
+start c = c .before .before .before .before .before .before
+
+abbrev book : (c : tie.After-literals2) → List ℕ
+book c = start c .args .book .now
+
+abbrev session : (c : tie.After-literals2) → List ℕ
+session c = start c .args .session .now
+
 returns : tie.Need-returns
-returns c = λ run buffer h few.
-    let trail : c .before .before .trail .given .0 .0 ≡ length (run .trail) = cc (sym (c .before .before .trail .given .1) ∙ c .before .before .before .before .before .trail-from .ensures .0 ∙ count-is (c .before .before .before .before .before .before .before .before .before .before .args .book .now) (c .before .before .before .before .before .before .before .before .before .before .args .session .now) run buffer h) in
+returns c =
+    let here = c .before .before .before .before in
+    λ run buffer h few.
+    let trail : c .before .before .trail .given .0 .0 ≡ length (run .trail) = cc (sym (c .before .before .trail .given .1) ∙ c .before .before .before .before .before .trail-from .ensures .0 ∙ run-count (book here) (session here) run buffer h) in
     absurd (omega (arith, c .if1 .taken))
 
 returns-2 : tie.Need-returns-2
-returns-2 c = λ run buffer h few.
-    let trail : c .before .before .before .trail .given .0 .0 ≡ length (run .trail) = cc (sym (c .before .before .before .trail .given .1) ∙ c .before .before .before .before .before .before .trail-from .ensures .0 ∙ count-is (c .before .before .before .before .before .before .before .before .before .before .before .args .book .now) (c .before .before .before .before .before .before .before .before .before .before .before .args .session .now) run buffer h) in
-    absurd (omega (arith, c .if2 .taken, trail-few (c .before .before .before .before .before .before .before .before .before .before .before .args .book .now) (c .before .before .before .before .before .before .before .before .before .before .before .args .session .now) run buffer h))
+returns-2 c =
+    let here = c .before .before .before .before .before in
+    λ run buffer h few.
+    let trail : c .before .before .before .trail .given .0 .0 ≡ length (run .trail) = cc (sym (c .before .before .before .trail .given .1) ∙ c .before .before .before .before .before .before .trail-from .ensures .0 ∙ run-count (book here) (session here) run buffer h) in
+    absurd (omega (arith, c .if2 .taken, trail-few (book here) (session here) run buffer h))
 
 wide-requires : tie.Need-wide-requires
 wide-requires c κs = search needs
@@ -57,16 +67,20 @@ write-implied-requires : tie.Need-write-implied-requires
 write-implied-requires c κs = search needs
 
 returns-3 : tie.Need-returns-3
-returns-3 c = λ run buffer h few.
-    let z : _≡_ {A = ℕ} 0 1 = cc (sym (c .enum-told .given .1) ∙ c .before .before .before .trail-from .ensures .0 ∙ count-is (c .before .before .before .before .before .before .before .before .args .book .now) (c .before .before .before .before .before .before .before .before .args .session .now) run buffer h) in absurd (omega arith)
+returns-3 c =
+    let here = c .before .before in
+    λ run buffer h few.
+    let z : _≡_ {A = ℕ} 0 1 = cc (sym (c .enum-told .given .1) ∙ c .before .before .before .trail-from .ensures .0 ∙ run-count (book here) (session here) run buffer h) in absurd (omega arith)
 
 same-length : tie.Need-same-length
 same-length c = search needs
 
 returns-4 : tie.Need-returns-4
-returns-4 c = λ run buffer h few.
-    let trail : c .before .before .before .before .before .before .before .before .before .before .before .trail .given .0 .0 ≡ length (run .trail) = cc (sym (c .before .before .before .before .before .before .before .before .before .before .before .trail .given .1) ∙ c .before .before .before .before .before .before .before .before .before .before .before .before .before .before .trail-from .ensures .0 ∙ count-is (c .before .before .before .before .before .before .before .before .before .before .before .before .before .before .before .before .before .before .before .args .book .now) (c .before .before .before .before .before .before .before .before .before .before .before .before .before .before .before .before .before .before .before .args .session .now) run buffer h) in
-    implied-prints (c .before .before .before .before .before .before .before .before .before .before .before .before .before .before .before .before .before .before .before .args .book .now) (c .before .before .before .before .before .before .before .before .before .before .before .before .before .before .before .before .before .before .before .args .session .now) run buffer h (c .before .before .before .before .before .before .before .before .before .before .before .before .before .before .before .before .before .before .before .args .cause) (c .before .before .before .before .before .before .before .before .before .before .before .before .before .before .before .before .before .before .before .args .implied) (c .before .before .before .before .before .before .before .wide .result) (c .before .before .before .before .before .before .wide2 .result) _ _ (c .before .before .before .before .before .before .before .before .before .before .before .before .before .before .before .before .before .before .before .args .out .now) _ _
+returns-4 c =
+    let here = c .before .before .before .before .before .before .before .before .before .before .before .before .before in
+    λ run buffer h few.
+    let trail : c .before .before .before .before .before .before .before .before .before .before .before .trail .given .0 .0 ≡ length (run .trail) = cc (sym (c .before .before .before .before .before .before .before .before .before .before .before .trail .given .1) ∙ c .before .before .before .before .before .before .before .before .before .before .before .before .before .before .trail-from .ensures .0 ∙ run-count (book here) (session here) run buffer h) in
+    implied-prints (book here) (session here) run buffer h (start here .args .cause) (start here .args .implied) (c .before .before .before .before .before .before .before .wide .result) (c .before .before .before .before .before .before .wide2 .result) _ _ (start here .args .out .now) _ _
     (omega (arith, c .before .before .before .before .before .before .wide2 .ensures)) (omega (arith, c .before .before .before .before .before .before .before .wide .ensures)) few (omega (arith, c .before .before .before .before .before .before .before .before .if2 .left)) (c .before .before .before .before .before .before .before .before .before .before .before .before .before .before .trail-from .ensures .1) (c .before .before .write-implied .ensures)
 
 pub show-implied-spec : {M : Type 1} → statement M

@@ -8,9 +8,6 @@ use Rattle.desk.specs.Following.{TakesBytes}
 use Rattle.desk.proofs.FollowingLaws.{takes-none, takes-more, takes-all}
 use Rattle.desk.proofs.take_bytes.Statement.{statement}
 use Rattle.desk.proofs.take_bytes.Tie as tie
-use Rattle.desk.proofs.take_bytes.Reads as reads
-use Rattle.desk.proofs.take_bytes.Lts as lts
-use Rattle.desk.proofs.take_byte.Reads as take-byte-reads
 
 abbrev Inv-loop : tie.InvT-loop
 Inv-loop book session₀ line₀ kept bytes end₀ i₀ session line end i =
@@ -20,46 +17,44 @@ Inv-loop book session₀ line₀ kept bytes end₀ i₀ session line end i =
 abbrev μ-loop : tie.MeasureT-loop
 μ-loop book session₀ line₀ kept bytes end₀ i₀ session line end i = length bytes - i
 
--- src/main.rt:111:5
-loop-holds : tie.Need-loop-holds Inv-loop μ-loop
-loop-holds c = (omega arith, refl, refl, takes-none (c .before .before .before .before .args .book .now) (c .before .before .before .before .args .session .now) (c .before .before .before .before .args .line .now) (c .before .before .before .before .args .kept) (c .before .before .before .before .args .bytes .now))
+-- the entry
+abbrev start : (c : tie.After-shared-slice-known2 Inv-loop μ-loop) → tie.Start Inv-loop μ-loop
+start c = c .before .before .before .before
 
--- src/main.rt:112:51
+loop-holds : tie.Need-loop-holds Inv-loop μ-loop
+loop-holds c = (omega arith, refl, refl, takes-none (start c .args .book .now) (start c .args .session .now) (start c .args .line .now) (start c .args .kept) (start c .args .bytes .now))
+
 shared-slice-read-take-byte : tie.Need-shared-slice-read-take-byte Inv-loop μ-loop
 shared-slice-read-take-byte c = search needs
 
--- src/main.rt:112:9
 take-byte-requires : tie.Need-take-byte-requires Inv-loop μ-loop
 take-byte-requires c κs = search needs
 
--- src/main.rt:113:9
 add-i : tie.Need-add-i Inv-loop μ-loop
 add-i c = search needs
 
--- src/main.rt:111:5
 loop-less : tie.Need-loop-less Inv-loop μ-loop
 loop-less c = search needs
 
--- src/main.rt:111:5
 loop-again : tie.Need-loop-again Inv-loop μ-loop
-loop-again c = (
-  search needs,
-  search needs,
-  search needs,
-  takes-more (c .before .before .before .before .before .before .before .before .before .before .before .before .before .before .args .book .now) (c .before .before .before .before .before .before .before .before .before .before .before .before .before .before .args .session .now) (c .before .before .before .before .before .before .before .before .before .before .before .before .before .before .args .line .now) (c .before .before .before .before .before .before .before .before .before .before .before .before .before .before .args .kept) (c .before .before .before .before .before .before .before .before .before .before .before .before .before .before .args .bytes .now) (c .before .before .before .before .before .before .before .before .before .loop .i) _ _ _ _ _ _ (omega arith) (c .before .before .before .before .before .before .before .before .before .loop .inv .3) (c .before .before .before .before .take-byte .ensures),
-)
+loop-again c =
+    let here = c .before .before .before .before .before .before .before .before .before .before in (
+      search needs,
+      search needs,
+      search needs,
+      takes-more (start here .args .book .now) (start here .args .session .now) (start here .args .line .now) (start here .args .kept) (start here .args .bytes .now) (c .before .before .before .before .before .before .before .before .before .loop .i) _ _ _ _ _ _ (omega arith) (c .before .before .before .before .before .before .before .before .before .loop .inv .3) (c .before .before .before .before .take-byte .ensures),
+    )
 
--- src/main.rt:108:1
 same-length : tie.Need-same-length Inv-loop μ-loop
 same-length c = search needs
 
--- src/main.rt:108:1
 same-length-2 : tie.Need-same-length-2 Inv-loop μ-loop
 same-length-2 c = search needs
 
--- src/main.rt:108:1
 returns : tie.Need-returns Inv-loop μ-loop
-returns c = takes-all (c .before .before .before .before .before .before .args .book .now) (c .before .before .before .before .before .before .args .session .now) (c .before .before .before .before .before .before .args .line .now) (c .before .before .before .before .before .before .args .kept) (c .before .before .before .before .before .before .args .bytes .now) (c .before .loop .i) _ _ _ (omega arith) (c .before .loop .inv .3)
+returns c =
+    let here = c .before .before in
+    takes-all (start here .args .book .now) (start here .args .session .now) (start here .args .line .now) (start here .args .kept) (start here .args .bytes .now) (c .before .loop .i) _ _ _ (omega arith) (c .before .loop .inv .3)
 
 pub take-bytes-spec : {M : Type 1} → statement M
 take-bytes-spec =

@@ -1,134 +1,119 @@
 -- `parse_line` meets its contract: each return is a case of what a line asks for. Assumes nothing.
-use mathlib.Core.Path.{sym, _∙_}
+use mathlib.Core.Path.{_≡_, sym, _∙_}
 use native.Mathlib.Omega.{arith}
-use Rattle.book.proofs.DecimalLaws.{value-below}
-use Rattle.script.proofs.LineLaws.{digits-behind, numbered-value, numbered-invalid, line-empty, line-negative, line-back, line-positive, back-none, back-unparted, back-parted}
+use lib.ListN.{drop}
+use Rattle.book.specs.Answer.{digitsOf}
+use Rattle.book.specs.declared.bytes.Digits.{Digits}
+use Rattle.book.proofs.DecimalLaws.{digits-behind, value-below}
+use Rattle.script.proofs.LineLaws.{numbered-value, numbered-invalid, line-empty, line-negative, line-back, line-positive, back-malformed, back-unparted, back-parted}
 use borrow.Author.Needs.{needs}
 use Rattle.script.proofs.parse_line.Statement.{statement}
 use Rattle.script.proofs.parse_line.Tie as tie
-use Rattle.script.proofs.parse_line.Reads as reads
-use Rattle.script.proofs.parse_line.Lts as lts
-use Rattle.book.proofs.number.Reads as number-reads
 
--- src/lib.rt:32:9
+-- the answer of `number`, said of the line behind its first bytes
+digits-signed : (c : tie.After-number) {d : Digits} → c .number .result ≡ d → d ≡ digitsOf (drop 1 (c .before .before .before .before .before .before .args .line .now))
+digits-signed c e = digits-behind 1 (c .before .before .before .before .before .before .args .line .now) _ (sym e ∙ c .number .ensures)
+
+digits-back : (c : tie.After-number2) {d : Digits} → c .number2 .result ≡ d → d ≡ digitsOf (drop 2 (c .before .before .before .before .before .before .before .before .before .before .before .args .line .now))
+digits-back c e = digits-behind 2 (c .before .before .before .before .before .before .before .before .before .before .before .args .line .now) _ (sym e ∙ c .number2 .ensures)
+
 returns : tie.Need-returns
-returns c = sym (line-empty (c .before .before .args .line .now) (c .if1 .taken))
+returns c = sym (line-empty _ (c .if1 .taken))
 
--- src/lib.rt:34:8
 shared-slice-read-if2 : tie.Need-shared-slice-read-if2
 shared-slice-read-if2 c = search needs
 
--- src/lib.rt:35:28
 sub-number : tie.Need-sub-number
 sub-number c = search needs
 
--- src/lib.rt:35:28
 part-number-start : tie.Need-part-number-start
 part-number-start c = search needs
 
--- src/lib.rt:35:28
 part-number-end : tie.Need-part-number-end
 part-number-end c = search needs
 
--- src/lib.rt:35:15
 number-requires : tie.Need-number-requires
 number-requires c κs = search needs
 
--- src/lib.rt:36:38
 enum-told : tie.Need-enum-told
 enum-told c = search needs
 
--- src/lib.rt:37:33
 enum-known-variable : tie.Need-enum-known-variable
 enum-known-variable c = search needs
 
--- src/lib.rt:37:59
 mul-t16 : tie.Need-mul-t16
-mul-t16 c = omega (arith, value-below _ _ (digits-behind 1 (c .before .before .before .before .before .before .before .before .before .args .line .now) _ (sym (c .before .variable .given .1) ∙ c .before .before .before .number .ensures)))
+mul-t16 c = omega (arith, value-below _ _ (digits-signed (c .before .before .before) (c .before .variable .given .1)))
 
--- src/lib.rt:37:59
 add-t17 : tie.Need-add-t17
-add-t17 c = omega (arith, value-below _ _ (digits-behind 1 (c .before .before .before .before .before .before .before .before .before .args .line .now) _ (sym (c .before .variable .given .1) ∙ c .before .before .before .number .ensures)))
+add-t17 c = omega (arith, value-below _ _ (digits-signed (c .before .before .before) (c .before .variable .given .1)))
 
--- src/lib.rt:39:15
 shared-slice-read-if3 : tie.Need-shared-slice-read-if3
 shared-slice-read-if3 c = search needs
 
--- src/lib.rt:41:13
 returns-2 : tie.Need-returns-2
-returns-2 c = sym (line-back (c .before .before .before .before .before .before .before .args .line .now) (omega arith) (c .before .if3 .taken) ∙ back-none (c .before .before .before .before .before .before .before .args .line .now) (c .if4 .taken))
+returns-2 c =
+    let line = c .before .before .before .before .before .before .before .args .line .now in
+    sym (line-back line (omega arith) (c .before .if3 .taken) ∙ back-malformed line (c .if4 .taken))
 
--- src/lib.rt:43:12
 shared-slice-read-if5 : tie.Need-shared-slice-read-if5
 shared-slice-read-if5 c = search needs
 
--- src/lib.rt:44:13
 returns-3 : tie.Need-returns-3
-returns-3 c = sym (line-back (c .before .before .before .before .before .before .before .before .before .args .line .now) (omega arith) (c .before .before .before .if3 .taken) ∙ back-unparted (c .before .before .before .before .before .before .before .before .before .args .line .now) (c .if5 .taken))
+returns-3 c =
+    let line = c .before .before .before .before .before .before .before .before .before .args .line .now in
+    sym (line-back line (omega arith) (c .before .before .before .if3 .taken) ∙ back-unparted line (c .if5 .taken))
 
--- src/lib.rt:46:28
 sub-number-2 : tie.Need-sub-number-2
 sub-number-2 c = search needs
 
--- src/lib.rt:46:28
 part-number-start-2 : tie.Need-part-number-start-2
 part-number-start-2 c = search needs
 
--- src/lib.rt:46:28
 part-number-end-2 : tie.Need-part-number-end-2
 part-number-end-2 c = search needs
 
--- src/lib.rt:46:15
 number-requires-2 : tie.Need-number-requires-2
 number-requires-2 c κs = search needs
 
--- src/lib.rt:47:38
 enum-told-2 : tie.Need-enum-told-2
 enum-told-2 c = search needs
 
--- src/lib.rt:48:33
 enum-known-k : tie.Need-enum-known-k
 enum-known-k c = search needs
 
--- src/lib.rt:51:15
 number-requires-3 : tie.Need-number-requires-3
 number-requires-3 c κs = search needs
 
--- src/lib.rt:52:38
 enum-told-3 : tie.Need-enum-told-3
 enum-told-3 c = search needs
 
--- src/lib.rt:53:33
 enum-known-variable-2 : tie.Need-enum-known-variable-2
 enum-known-variable-2 c = search needs
 
--- src/lib.rt:53:59
 mul-t33 : tie.Need-mul-t33
 mul-t33 c = omega (arith, value-below _ _ (sym (c .before .variable2 .given .1) ∙ c .before .before .before .number3 .ensures))
 
--- src/lib.rt:28:1
 returns-4 : tie.Need-returns-4
-returns-4 c = sym (line-negative (c .before .before .before .before .before .before .before .before .args .line .now) (omega arith) (c .before .before .before .before .if2 .taken) ∙ numbered-invalid _ _ (digits-behind 1 (c .before .before .before .before .before .before .before .before .args .line .now) _ (sym (c .enum-told .given .1) ∙ c .before .before .number .ensures)))
+returns-4 c = sym (line-negative _ (omega arith) (c .before .before .before .before .if2 .taken) ∙ numbered-invalid _ _ (digits-signed (c .before .before) (c .enum-told .given .1)))
 
--- src/lib.rt:28:1
 returns-5 : tie.Need-returns-5
-returns-5 c = sym (line-negative (c .before .before .before .before .before .before .before .before .before .args .line .now) (omega arith) (c .before .before .before .before .before .if2 .taken) ∙ numbered-value _ _ _ (digits-behind 1 (c .before .before .before .before .before .before .before .before .before .args .line .now) _ (sym (c .before .variable .given .1) ∙ c .before .before .before .number .ensures)))
+returns-5 c = sym (line-negative _ (omega arith) (c .before .before .before .before .before .if2 .taken) ∙ numbered-value _ _ _ (digits-signed (c .before .before .before) (c .before .variable .given .1)))
 
--- src/lib.rt:28:1
 returns-6 : tie.Need-returns-6
-returns-6 c = sym (line-back (c .before .before .before .before .before .before .before .before .before .before .before .before .before .args .line .now) (omega arith) (c .before .before .before .before .before .before .before .if3 .taken) ∙ back-parted (c .before .before .before .before .before .before .before .before .before .before .before .before .before .args .line .now) (c .before .before .before .before .if5 .left) ∙ numbered-invalid _ _ (digits-behind 2 (c .before .before .before .before .before .before .before .before .before .before .before .before .before .args .line .now) _ (sym (c .enum-told2 .given .1) ∙ c .before .before .number2 .ensures)))
+returns-6 c =
+    let line = c .before .before .before .before .before .before .before .before .before .before .before .before .before .args .line .now in
+    sym (line-back line (omega arith) (c .before .before .before .before .before .before .before .if3 .taken) ∙ back-parted line (c .before .before .before .before .if5 .left) ∙ numbered-invalid _ _ (digits-back (c .before .before) (c .enum-told2 .given .1)))
 
--- src/lib.rt:28:1
 returns-7 : tie.Need-returns-7
-returns-7 c = sym (line-back (c .before .before .before .before .before .before .before .before .before .before .before .before .before .before .args .line .now) (omega arith) (c .before .before .before .before .before .before .before .before .if3 .taken) ∙ back-parted (c .before .before .before .before .before .before .before .before .before .before .before .before .before .before .args .line .now) (c .before .before .before .before .before .if5 .left) ∙ numbered-value _ _ _ (digits-behind 2 (c .before .before .before .before .before .before .before .before .before .before .before .before .before .before .args .line .now) _ (sym (c .before .k .given .1) ∙ c .before .before .before .number2 .ensures)))
+returns-7 c =
+    let line = c .before .before .before .before .before .before .before .before .before .before .before .before .before .before .args .line .now in
+    sym (line-back line (omega arith) (c .before .before .before .before .before .before .before .before .if3 .taken) ∙ back-parted line (c .before .before .before .before .before .if5 .left) ∙ numbered-value _ _ _ (digits-back (c .before .before .before) (c .before .k .given .1)))
 
--- src/lib.rt:28:1
 returns-8 : tie.Need-returns-8
-returns-8 c = sym (line-positive (c .before .before .before .before .before .before .before .before .before .args .line .now) (omega arith) (c .before .before .before .before .before .if2 .left) (c .before .before .before .if3 .left) ∙ numbered-invalid _ _ (sym (c .enum-told3 .given .1) ∙ c .before .before .number3 .ensures))
+returns-8 c = sym (line-positive _ (omega arith) (c .before .before .before .before .before .if2 .left) (c .before .before .before .if3 .left) ∙ numbered-invalid _ _ (sym (c .enum-told3 .given .1) ∙ c .before .before .number3 .ensures))
 
--- src/lib.rt:28:1
 returns-9 : tie.Need-returns-9
-returns-9 c = sym (line-positive (c .before .before .before .before .before .before .before .before .before .before .args .line .now) (omega arith) (c .before .before .before .before .before .before .if2 .left) (c .before .before .before .before .if3 .left) ∙ numbered-value _ _ _ (sym (c .before .variable2 .given .1) ∙ c .before .before .before .number3 .ensures))
+returns-9 c = sym (line-positive _ (omega arith) (c .before .before .before .before .before .before .if2 .left) (c .before .before .before .before .if3 .left) ∙ numbered-value _ _ _ (sym (c .before .variable2 .given .1) ∙ c .before .before .before .number3 .ensures))
 
 pub parse-line-spec : {M : Type 1} → statement M
 parse-line-spec =

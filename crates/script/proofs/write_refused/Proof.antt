@@ -5,38 +5,25 @@ use Rattle.script.proofs.WritingLaws.{appends-both, appends-as, line-wr
 use borrow.Author.Needs.{needs}
 use Rattle.script.proofs.write_refused.Statement.{statement}
 use Rattle.script.proofs.write_refused.Tie as tie
-use Rattle.script.proofs.write_refused.Reads as reads
-use Rattle.script.proofs.write_refused.Lts as lts
-use Rattle.script.proofs.writing.put.Reads as put-reads
-use Rattle.script.proofs.writing.put_all.Reads as put-all-reads
-use Rattle.script.proofs.writing.put_number.Reads as put-number-reads
-use Rattle.script.proofs.writing.wide.Reads as wide-reads
 
--- src/lib.rt:93:27
 slice-aggregate-put-all : tie.Need-slice-aggregate-put-all
 slice-aggregate-put-all c = search needs
 
--- src/lib.rt:93:9
 put-all-requires : tie.Need-put-all-requires
 put-all-requires c κs = search needs
 
--- src/lib.rt:94:29
 wide-requires : tie.Need-wide-requires
 wide-requires c κs = search needs
 
--- src/lib.rt:94:9
 put-number-requires : tie.Need-put-number-requires
 put-number-requires c κs = search needs
 
--- src/lib.rt:95:5
 put-requires : tie.Need-put-requires
 put-requires c κs = search needs
 
--- src/lib.rt:89:1
 same-length : tie.Need-same-length
 same-length c = search needs
 
--- src/lib.rt:89:1
 returns : tie.Need-returns
 unfolding bytes refusedLine
 returns c = line-written (appends-as (ap refusedLine (c .before .before .before .before .before .before .before .before .wide .ensures)) (appends-both (c .before .before .before .before .before .before .before .before .before .before .before .put-all .ensures) (appends-both (c .before .before .before .before .before .before .put-number .ensures) (c .before .before .put .ensures))))

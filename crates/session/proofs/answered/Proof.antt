@@ -1,11 +1,8 @@
 -- `answered` meets its contract. Assumes nothing.
 use borrow.Author.Needs.{needs}
 use borrow.Author.Tests.{eq-eqb, ne-eqb}
-use borrow.Author.Needs.{needs}
 use Rattle.session.proofs.answered.Statement.{statement}
 use Rattle.session.proofs.answered.Tie as tie
-use Rattle.session.proofs.answered.Reads as reads
-use Rattle.session.proofs.answered.Lts as lts
 
 shared-slice-read-conflict : tie.Need-shared-slice-read-conflict
 shared-slice-read-conflict c = search needs

@@ -1,14 +1,11 @@
 -- `backtrack` meets its contract. Assumes nothing.
+use Prim.Native.Nat.{ℕ}
+use mathlib.Core.List.{List}
 use mathlib.Core.Path.{sym, _∙_}
 use borrow.Author.Needs.{needs}
-use Rattle.session.proofs.PublicLaws.{back-refused, back-own, back-holding, back-done}
-use borrow.Author.Needs.{needs}
+use Rattle.session.proofs.AnswerLaws.{back-refused, back-own, back-holding, back-done}
 use Rattle.session.proofs.backtrack.Statement.{statement}
 use Rattle.session.proofs.backtrack.Tie as tie
-use Rattle.session.proofs.backtrack.Reads as reads
-use Rattle.session.proofs.backtrack.Lts as lts
-use Rattle.session.proofs.backtrack_refusal.Reads as backtrack-refusal-reads
-use Rattle.session.proofs.moves.backtrack_levels.Reads as backtrack-levels-reads
 
 backtrack-refusal-requires : tie.Need-backtrack-refusal-requires
 backtrack-refusal-requires c κs = search needs
@@ -16,17 +13,31 @@ backtrack-refusal-requires c κs = search needs
 same-length : tie.Need-same-length
 same-length c = search needs
 
-returns : tie.Need-returns
-returns c = back-refused (c .before .before .before .before .before .args .book .now) (c .before .before .before .before .before .args .session .now) (c .before .before .before .before .before .args .k) _ (c .before .backtrack-refusal .ensures) (c .if1 .taken)
+-- the entry
+abbrev start : (c : tie.After-backtrack-refusal) → tie.Start
+start c = c .before .before .before .before
 
-backtrack-levels-requires : tie.Need-backtrack-levels-requires
-backtrack-levels-requires c κs = (back-holding (c .before .before .before .before .before .before .args .book .now) (c .before .before .before .before .before .before .args .session .now) (c .before .before .before .before .before .before .args .k) (sym (c .before .if1 .left) ∙ c .before .before .backtrack-refusal .ensures), back-own (c .before .before .before .before .before .before .args .book .now) (c .before .before .before .before .before .before .args .session .now) (c .before .before .before .before .before .before .args .k) (sym (c .before .if1 .left) ∙ c .before .before .backtrack-refusal .ensures))
+abbrev book : (c : tie.After-backtrack-refusal) → List ℕ
+book c = start c .args .book .now
+
+abbrev session : (c : tie.After-backtrack-refusal) → List ℕ
+session c = start c .args .session .now
+
+returns : tie.Need-returns
+returns c = back-refused (book (c .before)) (session (c .before)) (start (c .before) .args .k) _ (c .before .backtrack-refusal .ensures) (c .if1 .taken)
+
+backtrack-requires : tie.Need-backtrack-requires
+backtrack-requires c κs =
+    let here = c .before .before in
+    (back-holding (book here) (session here) (start here .args .k) (sym (c .before .if1 .left) ∙ c .before .before .backtrack-refusal .ensures), back-own (book here) (session here) (start here .args .k) (sym (c .before .if1 .left) ∙ c .before .before .backtrack-refusal .ensures))
 
 same-length-2 : tie.Need-same-length-2
 same-length-2 c = search needs
 
 returns-2 : tie.Need-returns-2
-returns-2 c = back-done (c .before .before .before .before .before .before .before .before .before .args .book .now) (c .before .before .before .before .before .before .before .before .before .args .session .now) (c .before .before .before .before .before .before .before .before .before .args .k) (sym (c .before .before .before .before .if1 .left) ∙ c .before .before .before .before .before .backtrack-refusal .ensures) _ (c .before .before .backtrack-levels .ensures (back-holding (c .before .before .before .before .before .before .before .before .before .args .book .now) (c .before .before .before .before .before .before .before .before .before .args .session .now) (c .before .before .before .before .before .before .before .before .before .args .k) (sym (c .before .before .before .before .if1 .left) ∙ c .before .before .before .before .before .backtrack-refusal .ensures)) (back-own (c .before .before .before .before .before .before .before .before .before .args .book .now) (c .before .before .before .before .before .before .before .before .before .args .session .now) (c .before .before .before .before .before .before .before .before .before .args .k) (sym (c .before .before .before .before .if1 .left) ∙ c .before .before .before .before .before .backtrack-refusal .ensures)))
+returns-2 c =
+    let here = c .before .before .before .before .before in
+    back-done (book here) (session here) (start here .args .k) (sym (c .before .before .before .before .if1 .left) ∙ c .before .before .before .before .before .backtrack-refusal .ensures) _ (c .before .before .backtrack .ensures (back-holding (book here) (session here) (start here .args .k) (sym (c .before .before .before .before .if1 .left) ∙ c .before .before .before .before .before .backtrack-refusal .ensures)) (back-own (book here) (session here) (start here .args .k) (sym (c .before .before .before .before .if1 .left) ∙ c .before .before .before .before .before .backtrack-refusal .ensures)))
 
 pub backtrack-spec : {M : Type 1} → statement M
 backtrack-spec =
@@ -35,6 +46,6 @@ backtrack-spec =
     backtrack-refusal-requires
     same-length
     returns
-    backtrack-levels-requires
+    backtrack-requires
     same-length-2
     returns-2)

@@ -1,44 +1,70 @@
 -- `backtrack_refusal` meets its contract. Assumes nothing.
-use mathlib.Core.Path.{sym, _∙_}
+use Rattle.validation.specs.Validation.{readRefusal}
+use Prim.Native.Nat.{ℕ}
+use mathlib.Core.List.{List}
+use mathlib.Core.Path.{sym, _∙_, _≡_}
 use native.Mathlib.Omega.{arith}
 use borrow.Author.Needs.{needs}
-use Rattle.session.proofs.PublicLaws.{back-refused-first, long, back-none, back-over, back-spent, back-accepted}
-use borrow.Author.Needs.{needs}
+use Rattle.session.proofs.PassedLaws.{back-refused-first, long}
+use Rattle.session.proofs.AnswerLaws.{back-none, back-over, back-spent, back-accepted}
 use Rattle.session.proofs.backtrack_refusal.Statement.{statement}
 use Rattle.session.proofs.backtrack_refusal.Tie as tie
-use Rattle.session.proofs.backtrack_refusal.Reads as reads
-use Rattle.session.proofs.backtrack_refusal.Lts as lts
-use Rattle.session.proofs.validated.Reads as validated-reads
 
-validated-requires : tie.Need-validated-requires
-validated-requires c κs = search needs
+validate-requires : tie.Need-validate-requires
+validate-requires c κs = search needs
+
+-- the entry
+abbrev start : (c : tie.After-validate) → tie.Start
+start c = c .before .before .before
+
+abbrev book : (c : tie.After-validate) → List ℕ
+book c = start c .args .book .now
+
+abbrev session : (c : tie.After-validate) → List ℕ
+session c = start c .args .session .now
+
+-- the session passed
+none : (c : tie.Else1) → 0 ≡ readRefusal (book (c .before)) (session (c .before))
+none c = sym (c .if1 .left) ∙ c .before .validate .ensures
 
 returns : tie.Need-returns
-returns c = back-refused-first (c .before .before .before .before .args .book .now) (c .before .before .before .before .args .session .now) _ _ (c .before .validated .ensures) (c .if1 .taken)
+returns c = back-refused-first (book (c .before)) (session (c .before)) _ _ (c .before .validate .ensures) (c .if1 .taken)
 
 returns-2 : tie.Need-returns-2
-returns-2 c = back-none (c .before .before .before .before .before .args .book .now) (c .before .before .before .before .before .args .session .now) (sym (c .before .if1 .left) ∙ c .before .before .validated .ensures) _ (c .if2 .taken)
+returns-2 c =
+    let here = c .before .before in
+    back-none (book here) (session here) (none (c .before)) _ (c .if2 .taken)
 
 shared-slice-read-if3 : tie.Need-shared-slice-read-if3
-shared-slice-read-if3 c = omega (arith, long (c .before .before .before .before .before .before .args .book .now) (c .before .before .before .before .before .before .args .session .now) (sym (c .before .before .if1 .left) ∙ c .before .before .before .validated .ensures))
+shared-slice-read-if3 c =
+    let here = c .before .before .before in
+    omega (arith, long (book here) (session here) (none (c .before .before)))
 
 returns-3 : tie.Need-returns-3
-returns-3 c = back-over (c .before .before .before .before .before .before .before .args .book .now) (c .before .before .before .before .before .before .before .args .session .now) (sym (c .before .before .before .if1 .left) ∙ c .before .before .before .before .validated .ensures) _ (c .if3 .taken)
+returns-3 c =
+    let here = c .before .before .before .before in
+    back-over (book here) (session here) (none (c .before .before .before)) _ (c .if3 .taken)
 
 shared-slice-read-if4 : tie.Need-shared-slice-read-if4
-shared-slice-read-if4 c = omega (arith, long (c .before .before .before .before .before .before .before .before .args .book .now) (c .before .before .before .before .before .before .before .before .args .session .now) (sym (c .before .before .before .before .if1 .left) ∙ c .before .before .before .before .before .validated .ensures))
+shared-slice-read-if4 c =
+    let here = c .before .before .before .before .before in
+    omega (arith, long (book here) (session here) (none (c .before .before .before .before)))
 
 returns-4 : tie.Need-returns-4
-returns-4 c = back-spent (c .before .before .before .before .before .before .before .before .before .args .book .now) (c .before .before .before .before .before .before .before .before .before .args .session .now) (sym (c .before .before .before .before .before .if1 .left) ∙ c .before .before .before .before .before .before .validated .ensures) _ (c .before .before .before .before .if2 .left) (c .before .before .if3 .left) (c .if4 .taken)
+returns-4 c =
+    let here = c .before .before .before .before .before .before in
+    back-spent (book here) (session here) (none (c .before .before .before .before .before)) _ (c .before .before .before .before .if2 .left) (c .before .before .if3 .left) (c .if4 .taken)
 
 returns-5 : tie.Need-returns-5
-returns-5 c = back-accepted (c .before .before .before .before .before .before .before .before .before .args .book .now) (c .before .before .before .before .before .before .before .before .before .args .session .now) (sym (c .before .before .before .before .before .if1 .left) ∙ c .before .before .before .before .before .before .validated .ensures) _ (c .before .before .before .before .if2 .left) (c .before .before .if3 .left) (c .if4 .left)
+returns-5 c =
+    let here = c .before .before .before .before .before .before in
+    back-accepted (book here) (session here) (none (c .before .before .before .before .before)) _ (c .before .before .before .before .if2 .left) (c .before .before .if3 .left) (c .if4 .left)
 
 pub backtrack-refusal-spec : {M : Type 1} → statement M
 backtrack-refusal-spec =
     tie.close
     (tie.spec
-    validated-requires
+    validate-requires
     returns
     returns-2
     shared-slice-read-if3

@@ -1,37 +1,66 @@
 -- `checks` meets its contract. Assumes nothing.
-use mathlib.Core.Path.{ap, sym, _∙_}
+use Prim.Native.Nat.{ℕ, _-_}
+use mathlib.Core.List.{List}
+use mathlib.Core.Path.{_≡_, sym, ap, ap₂, _∙_}
 use native.Mathlib.Omega.{arith}
 use borrow.Author.Needs.{needs}
-use Rattle.session.proofs.PublicLaws.{copy-refused, copy-is, checks-part, checks-count, well, long, needed-is, few-variables, few-clauses}
-use Rattle.session.specs.Outcomes.{checksOfRun}
 use lib.ListN.{length}
-use borrow.Author.Needs.{needs}
+use Rattle.book.specs.Numbers.{variablesOf, clausesOf}
+use Rattle.layout.specs.Layout.{checksAt}
+use Rattle.validation.specs.Validation.{readRefusal}
+use Rattle.session.specs.Outcomes.{checksOfRun}
+use Rattle.session.proofs.PassedLaws.{few-variables, few-clauses, fits, checks-part, checks-count, copy-is}
+use Rattle.session.proofs.AnswerLaws.{copy-refused}
 use Rattle.session.proofs.checks.Statement.{statement}
 use Rattle.session.proofs.checks.Tie as tie
-use Rattle.session.proofs.checks.Reads as reads
-use Rattle.session.proofs.checks.Lts as lts
-use Rattle.book.proofs.clauses.Reads as clauses-reads
-use Rattle.session.proofs.copies.copy.Reads as copy-reads
-use Rattle.session.proofs.validated.Reads as validated-reads
-use Rattle.session.proofs.needed.Reads as needed-reads
 
-validated-requires : tie.Need-validated-requires
-validated-requires c κs = search needs
+validate-requires : tie.Need-validate-requires
+validate-requires c κs = search needs
+
+-- the entry, and that the session passed
+abbrev start : (c : tie.Else1) → tie.Start
+start c = c .before .before .before .before .before
+
+abbrev book : (c : tie.Else1) → List ℕ
+book c = start c .args .book .now
+
+abbrev session : (c : tie.Else1) → List ℕ
+session c = start c .args .session .now
+
+none : (c : tie.Else1) → 0 ≡ readRefusal (book c) (session c)
+none c = sym (c .if1 .left) ∙ c .before .validate .ensures
 
 returns : tie.Need-returns
-returns c = copy-refused (c .before .before .before .before .before .args .book .now) (c .before .before .before .before .before .args .session .now) checksOfRun (c .before .before .before .before .before .args .out .now) _ (c .before .validated .ensures) (c .if1 .taken)
+returns c =
+    let start = c .before .before .before .before .before in
+    copy-refused (start .args .book .now) (start .args .session .now) checksOfRun (start .args .out .now) _ (c .before .validate .ensures) (c .if1 .taken)
 
 clauses-requires : tie.Need-clauses-requires
 clauses-requires c κs = search needs
 
-needed-requires : tie.Need-needed-requires
-needed-requires c κs = well (c .before .before .before .before .before .before .args .book .now) (c .before .before .before .before .before .before .args .session .now) (sym (c .before .if1 .left) ∙ c .before .before .validated .ensures)
+variables-requires : tie.Need-variables-requires
+variables-requires c κs = search needs
 
-sub-from : tie.Need-sub-from
-sub-from c = omega (arith, c .needed .ensures, c .before .clauses .ensures, needed-is (c .before .before .before .before .before .before .before .args .book .now), few-variables (c .before .before .before .before .before .before .before .args .book .now) (c .before .before .before .before .before .before .before .args .session .now) (sym (c .before .before .if1 .left) ∙ c .before .before .before .validated .ensures), few-clauses (c .before .before .before .before .before .before .before .args .book .now) (c .before .before .before .before .before .before .before .args .session .now) (sym (c .before .before .if1 .left) ∙ c .before .before .before .validated .ensures), long (c .before .before .before .before .before .before .before .args .book .now) (c .before .before .before .before .before .before .before .args .session .now) (sym (c .before .before .if1 .left) ∙ c .before .before .before .validated .ensures))
+checks-at-requires : tie.Need-checks-at-requires
+checks-at-requires c κs =
+    let passed = c .before .before in
+    (omega (arith, c .variables .ensures, few-variables (book passed) (session passed) (none passed)), omega (arith, c .before .clauses .ensures, few-clauses (book passed) (session passed) (none passed)))
+
+-- where the checks begin
+from-is : (c : tie.After-checks-at) → c .checks-at .result ≡ checksAt (variablesOf (book (c .before .before .before))) (clausesOf (book (c .before .before .before)))
+from-is c = c .checks-at .ensures ∙ ap₂ checksAt (c .before .variables .ensures) (c .before .before .clauses .ensures)
+
+add-copy : tie.Need-add-copy
+add-copy c =
+    let passed = c .before .before .before in
+    let room = fits (book passed) (session passed) (none passed) _ _ (c .before .variables .ensures) (c .before .before .clauses .ensures) in
+    omega (arith, c .checks-at .ensures)
 
 mul-copy : tie.Need-mul-copy
-mul-copy c = omega (arith, c .needed .ensures, c .before .clauses .ensures, needed-is (c .before .before .before .before .before .before .before .args .book .now), few-variables (c .before .before .before .before .before .before .before .args .book .now) (c .before .before .before .before .before .before .before .args .session .now) (sym (c .before .before .if1 .left) ∙ c .before .before .before .validated .ensures), few-clauses (c .before .before .before .before .before .before .before .args .book .now) (c .before .before .before .before .before .before .before .args .session .now) (sym (c .before .before .if1 .left) ∙ c .before .before .before .validated .ensures), long (c .before .before .before .before .before .before .before .args .book .now) (c .before .before .before .before .before .before .before .args .session .now) (sym (c .before .before .if1 .left) ∙ c .before .before .before .validated .ensures))
+mul-copy c =
+    let passed = c .before .before .before in
+    let room = fits (book passed) (session passed) (none passed) _ _ (c .before .variables .ensures) (c .before .before .clauses .ensures) in
+    omega (arith, c .checks-at .ensures)
 
 sub-copy : tie.Need-sub-copy
 sub-copy c = search needs
@@ -40,31 +69,40 @@ part-copy-start : tie.Need-part-copy-start
 part-copy-start c = search needs
 
 part-copy-end : tie.Need-part-copy-end
-part-copy-end c = omega (arith, c .needed .ensures, c .before .clauses .ensures, needed-is (c .before .before .before .before .before .before .before .args .book .now), few-variables (c .before .before .before .before .before .before .before .args .book .now) (c .before .before .before .before .before .before .before .args .session .now) (sym (c .before .before .if1 .left) ∙ c .before .before .before .validated .ensures), few-clauses (c .before .before .before .before .before .before .before .args .book .now) (c .before .before .before .before .before .before .before .args .session .now) (sym (c .before .before .if1 .left) ∙ c .before .before .before .validated .ensures), long (c .before .before .before .before .before .before .before .args .book .now) (c .before .before .before .before .before .before .before .args .session .now) (sym (c .before .before .if1 .left) ∙ c .before .before .before .validated .ensures))
+part-copy-end c =
+    let passed = c .before .before .before in
+    let room = fits (book passed) (session passed) (none passed) _ _ (c .before .variables .ensures) (c .before .before .clauses .ensures) in
+    omega (arith, c .checks-at .ensures)
 
 copy-requires : tie.Need-copy-requires
 copy-requires c κs = search needs
 
 cast-t17 : tie.Need-cast-t17
-cast-t17 c = omega (arith, c .before .before .before .before .before .before .clauses .ensures, few-clauses (c .before .before .before .before .before .before .before .before .before .before .before .before .args .book .now) (c .before .before .before .before .before .before .before .before .before .before .before .before .args .session .now) (sym (c .before .before .before .before .before .before .before .if1 .left) ∙ c .before .before .before .before .before .before .before .before .validated .ensures))
+cast-t17 c =
+    let passed = c .before .before .before .before .before .before .before .before in
+    omega (arith, c .before .before .before .before .before .before .before .clauses .ensures, few-clauses (book passed) (session passed) (none passed))
 
 same-length : tie.Need-same-length
 same-length c = search needs
 
 returns-2 : tie.Need-returns-2
 returns-2 c =
-    let part = checks-part (c .before .before .before .before .before .before .before .before .before .before .before .before .args .book .now) (c .before .before .before .before .before .before .before .before .before .before .before .before .args .session .now) (sym (c .before .before .before .before .before .before .before .if1 .left) ∙ c .before .before .before .before .before .before .before .before .validated .ensures) (c .before .before .before .before .before .needed .result) (c .before .before .before .before .before .before .clauses .result) (c .before .before .before .before .before .needed .ensures) (c .before .before .before .before .before .before .clauses .ensures) in
-    copy-is (c .before .before .before .before .before .before .before .before .before .before .before .before .args .book .now) (c .before .before .before .before .before .before .before .before .before .before .before .before .args .session .now) (sym (c .before .before .before .before .before .before .before .if1 .left) ∙ c .before .before .before .before .before .before .before .before .validated .ensures) checksOfRun _ (c .before .before .before .before .before .before .before .before .before .before .before .before .args .out .now) _ _ part (omega (arith, ap length part, checks-count (c .before .before .before .before .before .before .before .before .before .before .before .before .args .book .now) (c .before .before .before .before .before .before .before .before .before .before .before .before .args .session .now) (sym (c .before .before .before .before .before .before .before .if1 .left) ∙ c .before .before .before .before .before .before .before .before .validated .ensures), c .before .before .before .before .before .before .clauses .ensures)) (c .before .before .copy .ensures)
+    let passed = c .before .before .before .before .before .before .before .before in
+    let clauses = c .before .before .before .before .before .before .before .clauses in
+    let part = checks-part (book passed) (session passed) (none passed) (c .before .before .before .before .before .checks-at .result) (clauses .result) (from-is (c .before .before .before .before .before)) (clauses .ensures) in
+    copy-is (book passed) (session passed) (none passed) checksOfRun _ (start passed .args .out .now) _ _ part
+    (omega (arith, ap length part, checks-count (book passed) (session passed) (none passed), clauses .ensures)) (c .before .before .copy .ensures)
 
 pub checks-spec : {M : Type 1} → statement M
 checks-spec =
     tie.close
     (tie.spec
-    validated-requires
+    validate-requires
     returns
     clauses-requires
-    needed-requires
-    sub-from
+    variables-requires
+    checks-at-requires
+    add-copy
     mul-copy
     sub-copy
     part-copy-start

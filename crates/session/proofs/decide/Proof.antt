@@ -1,59 +1,75 @@
 -- `decide` meets its contract. Assumes nothing.
+use Prim.Native.Nat.{ℕ}
+use mathlib.Core.List.{List}
 use mathlib.Core.Path.{sym, _∙_}
 use native.Mathlib.Omega.{arith}
 use borrow.Author.Needs.{needs}
-use Rattle.session.proofs.PublicLaws.{decide-refused, decide-own, decide-done, decide-grows, decide-holding, decide-room, decide-long}
-use borrow.Author.Needs.{needs}
+use Rattle.session.proofs.AnswerLaws.{decide-refused, decide-own, decide-done, decide-grows, decide-holding, decide-room, decide-long}
 use Rattle.session.proofs.decide.Statement.{statement}
 use Rattle.session.proofs.decide.Tie as tie
-use Rattle.session.proofs.decide.Reads as reads
-use Rattle.session.proofs.decide.Lts as lts
-use Rattle.session.proofs.answered.Reads as answered-reads
-use Rattle.session.proofs.decision_refusal.Reads as decision-refusal-reads
-use Rattle.session.proofs.moves.decide_literal.Reads as decide-literal-reads
 
-decision-refusal-requires : tie.Need-decision-refusal-requires
-decision-refusal-requires c κs = search needs
+decide-refusal-requires : tie.Need-decide-refusal-requires
+decide-refusal-requires c κs = search needs
 
 same-length : tie.Need-same-length
 same-length c = search needs
 
+-- the entry
+abbrev start : (c : tie.After-decide-refusal) → tie.Start
+start c = c .before .before .before .before
+
+abbrev book : (c : tie.After-decide-refusal) → List ℕ
+book c = start c .args .book .now
+
+abbrev session : (c : tie.After-decide-refusal) → List ℕ
+session c = start c .args .session .now
+
 returns : tie.Need-returns
-returns c = decide-refused (c .before .before .before .before .before .args .book .now) (c .before .before .before .before .before .args .session .now) (c .before .before .before .before .before .args .literal) _ (c .before .decision-refusal .ensures) (c .if1 .taken)
+returns c = decide-refused (book (c .before)) (session (c .before)) (start (c .before) .args .literal) _ (c .before .decide-refusal .ensures) (c .if1 .taken)
 
 slice-read-before : tie.Need-slice-read-before
-slice-read-before c = omega (arith, decide-long (c .before .before .before .before .before .before .args .book .now) (c .before .before .before .before .before .before .args .session .now) (c .before .before .before .before .before .before .args .literal) (sym (c .before .if1 .left) ∙ c .before .before .decision-refusal .ensures))
+slice-read-before c =
+    let here = c .before .before in
+    omega (arith, decide-long (book here) (session here) (start here .args .literal) (sym (c .before .if1 .left) ∙ c .before .before .decide-refusal .ensures))
 
 add-before : tie.Need-add-before
-add-before c = omega (arith, decide-room (c .before .before .before .before .before .before .args .book .now) (c .before .before .before .before .before .before .args .session .now) (c .before .before .before .before .before .before .args .literal) (sym (c .before .if1 .left) ∙ c .before .before .decision-refusal .ensures))
+add-before c =
+    let here = c .before .before in
+    omega (arith, decide-room (book here) (session here) (start here .args .literal) (sym (c .before .if1 .left) ∙ c .before .before .decide-refusal .ensures))
 
-decide-literal-requires : tie.Need-decide-literal-requires
-decide-literal-requires c κs = (decide-holding (c .before .before .before .before .before .before .before .args .book .now) (c .before .before .before .before .before .before .before .args .session .now) (c .before .before .before .before .before .before .before .args .literal) (sym (c .before .before .if1 .left) ∙ c .before .before .before .decision-refusal .ensures), decide-own (c .before .before .before .before .before .before .before .args .book .now) (c .before .before .before .before .before .before .before .args .session .now) (c .before .before .before .before .before .before .before .args .literal) (sym (c .before .before .if1 .left) ∙ c .before .before .before .decision-refusal .ensures))
+decide-requires : tie.Need-decide-requires
+decide-requires c κs =
+    let here = c .before .before .before in
+    (decide-holding (book here) (session here) (start here .args .literal) (sym (c .before .before .if1 .left) ∙ c .before .before .before .decide-refusal .ensures), decide-own (book here) (session here) (start here .args .literal) (sym (c .before .before .if1 .left) ∙ c .before .before .before .decide-refusal .ensures))
 
 answered-requires : tie.Need-answered-requires
 answered-requires c κs =
-    let b = c .before .before .before .decide-literal .ensures (decide-holding (c .before .before .before .before .before .before .before .before .before .before .before .args .book .now) (c .before .before .before .before .before .before .before .before .before .before .before .args .session .now) (c .before .before .before .before .before .before .before .before .before .before .before .args .literal) (sym (c .before .before .before .before .before .before .if1 .left) ∙ c .before .before .before .before .before .before .before .decision-refusal .ensures)) (decide-own (c .before .before .before .before .before .before .before .before .before .before .before .args .book .now) (c .before .before .before .before .before .before .before .before .before .before .before .args .session .now) (c .before .before .before .before .before .before .before .before .before .before .before .args .literal) (sym (c .before .before .before .before .before .before .if1 .left) ∙ c .before .before .before .before .before .before .before .decision-refusal .ensures)) in
-    (omega (arith, b .encodes .long), decide-grows (c .before .before .before .before .before .before .before .before .before .before .before .args .book .now) (c .before .before .before .before .before .before .before .before .before .before .before .args .session .now) (c .before .before .before .before .before .before .before .before .before .before .before .args .literal) (sym (c .before .before .before .before .before .before .if1 .left) ∙ c .before .before .before .before .before .before .before .decision-refusal .ensures) _ b)
+    let here = c .before .before .before .before .before .before .before in
+    let b = c .before .before .before .decide .ensures (decide-holding (book here) (session here) (start here .args .literal) (sym (c .before .before .before .before .before .before .if1 .left) ∙ c .before .before .before .before .before .before .before .decide-refusal .ensures)) (decide-own (book here) (session here) (start here .args .literal) (sym (c .before .before .before .before .before .before .if1 .left) ∙ c .before .before .before .before .before .before .before .decide-refusal .ensures)) in
+    (omega (arith, b .encodes .long), decide-grows (book here) (session here) (start here .args .literal) (sym (c .before .before .before .before .before .before .if1 .left) ∙ c .before .before .before .before .before .before .before .decide-refusal .ensures) _ b)
 
 same-length-2 : tie.Need-same-length-2
-same-length-2 c = (c .before .before .before .before .decide-literal .ensures (decide-holding (c .before .before .before .before .before .before .before .before .before .before .before .before .args .book .now) (c .before .before .before .before .before .before .before .before .before .before .before .before .args .session .now) (c .before .before .before .before .before .before .before .before .before .before .before .before .args .literal) (sym (c .before .before .before .before .before .before .before .if1 .left) ∙ c .before .before .before .before .before .before .before .before .decision-refusal .ensures)) (decide-own (c .before .before .before .before .before .before .before .before .before .before .before .before .args .book .now) (c .before .before .before .before .before .before .before .before .before .before .before .before .args .session .now) (c .before .before .before .before .before .before .before .before .before .before .before .before .args .literal) (sym (c .before .before .before .before .before .before .before .if1 .left) ∙ c .before .before .before .before .before .before .before .before .decision-refusal .ensures))) .same-length
+same-length-2 c =
+    let here = c .before .before .before .before .before .before .before .before in
+    (c .before .before .before .before .decide .ensures (decide-holding (book here) (session here) (start here .args .literal) (sym (c .before .before .before .before .before .before .before .if1 .left) ∙ c .before .before .before .before .before .before .before .before .decide-refusal .ensures)) (decide-own (book here) (session here) (start here .args .literal) (sym (c .before .before .before .before .before .before .before .if1 .left) ∙ c .before .before .before .before .before .before .before .before .decide-refusal .ensures))) .same-length
 
 returns-2 : tie.Need-returns-2
 returns-2 c =
-    let b = c .before .before .before .before .decide-literal .ensures (decide-holding (c .before .before .before .before .before .before .before .before .before .before .before .before .args .book .now) (c .before .before .before .before .before .before .before .before .before .before .before .before .args .session .now) (c .before .before .before .before .before .before .before .before .before .before .before .before .args .literal) (sym (c .before .before .before .before .before .before .before .if1 .left) ∙ c .before .before .before .before .before .before .before .before .decision-refusal .ensures)) (decide-own (c .before .before .before .before .before .before .before .before .before .before .before .before .args .book .now) (c .before .before .before .before .before .before .before .before .before .before .before .before .args .session .now) (c .before .before .before .before .before .before .before .before .before .before .before .before .args .literal) (sym (c .before .before .before .before .before .before .before .if1 .left) ∙ c .before .before .before .before .before .before .before .before .decision-refusal .ensures)) in
-    let done = decide-done (c .before .before .before .before .before .before .before .before .before .before .before .before .args .book .now) (c .before .before .before .before .before .before .before .before .before .before .before .before .args .session .now) (c .before .before .before .before .before .before .before .before .before .before .before .before .args .literal) (sym (c .before .before .before .before .before .before .before .if1 .left) ∙ c .before .before .before .before .before .before .before .before .decision-refusal .ensures) _ b in
+    let here = c .before .before .before .before .before .before .before .before in
+    let b = c .before .before .before .before .decide .ensures (decide-holding (book here) (session here) (start here .args .literal) (sym (c .before .before .before .before .before .before .before .if1 .left) ∙ c .before .before .before .before .before .before .before .before .decide-refusal .ensures)) (decide-own (book here) (session here) (start here .args .literal) (sym (c .before .before .before .before .before .before .before .if1 .left) ∙ c .before .before .before .before .before .before .before .before .decide-refusal .ensures)) in
+    let done = decide-done (book here) (session here) (start here .args .literal) (sym (c .before .before .before .before .before .before .before .if1 .left) ∙ c .before .before .before .before .before .before .before .before .decide-refusal .ensures) _ b in
     (c .answered .ensures ∙ done .0, done .1)
 
 pub decide-spec : {M : Type 1} → statement M
 decide-spec =
     tie.close
     (tie.spec
-    decision-refusal-requires
+    decide-refusal-requires
     same-length
     returns
     slice-read-before
     add-before
-    decide-literal-requires
+    decide-requires
     answered-requires
     same-length-2
     returns-2)

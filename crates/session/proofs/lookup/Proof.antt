@@ -1,27 +1,40 @@
 -- `lookup` meets its contract. Assumes nothing.
-use mathlib.Core.Path.{ap, sym, _∙_}
+use Prim.Native.Nat.{ℕ, _*_}
+use mathlib.Core.List.{List}
+use mathlib.Core.Path.{_≡_, sym, ap, _∙_}
 use native.Mathlib.Omega.{arith}
 use borrow.Author.Needs.{needs}
-use Prim.Native.Nat.{_*_}
-use Rattle.session.proofs.PublicLaws.{lookup-refused, variable-none, variable-over, variable-is, shownAs, few-variables, long, value-answers}
-use borrow.Author.Needs.{needs}
+use Rattle.layout.specs.declared.values.Value.{Value}
+use Rattle.validation.specs.Validation.{readRefusal}
+use Rattle.session.specs.Outcomes.{lookupAnswer}
+use Rattle.session.proofs.PassedLaws.{few-variables, trail-fits, value-answers}
+use Rattle.session.proofs.AnswerLaws.{lookup-refused, variable-none, variable-over, shownAs, variable-is}
 use Rattle.session.proofs.lookup.Statement.{statement}
 use Rattle.session.proofs.lookup.Tie as tie
-use Rattle.session.proofs.lookup.Reads as reads
-use Rattle.session.proofs.lookup.Lts as lts
-use Rattle.book.proofs.variables.Reads as variables-reads
-use Rattle.session.proofs.validated.Reads as validated-reads
-use Rattle.session.proofs.trail.value_of.Reads as value-of-reads
-use Rattle.session.proofs.trail.wide.Reads as wide-reads
 
-validated-requires : tie.Need-validated-requires
-validated-requires c κs = search needs
+validate-requires : tie.Need-validate-requires
+validate-requires c κs = search needs
+
+-- the entry, and that the session passed
+abbrev start : (c : tie.Else1) → tie.Start
+start c = c .before .before .before .before
+
+abbrev book : (c : tie.Else1) → List ℕ
+book c = start c .args .book .now
+
+abbrev session : (c : tie.Else1) → List ℕ
+session c = start c .args .session .now
+
+none : (c : tie.Else1) → 0 ≡ readRefusal (book c) (session c)
+none c = sym (c .if1 .left) ∙ c .before .validate .ensures
 
 returns : tie.Need-returns
-returns c = lookup-refused (c .before .before .before .before .args .book .now) (c .before .before .before .before .args .session .now) _ _ (c .before .validated .ensures) (c .if1 .taken)
+returns c =
+    let start = c .before .before .before .before in
+    lookup-refused (start .args .book .now) (start .args .session .now) _ _ (c .before .validate .ensures) (c .if1 .taken)
 
 returns-2 : tie.Need-returns-2
-returns-2 c = variable-none (c .before .before .before .before .before .args .book .now) (c .before .before .before .before .before .args .session .now) (sym (c .before .if1 .left) ∙ c .before .before .validated .ensures) _ (c .if2 .taken)
+returns-2 c = variable-none (book (c .before)) (session (c .before)) (none (c .before)) _ (c .if2 .taken)
 
 variables-requires : tie.Need-variables-requires
 variables-requires c κs = search needs
@@ -30,37 +43,20 @@ wide-requires : tie.Need-wide-requires
 wide-requires c κs = search needs
 
 returns-3 : tie.Need-returns-3
-returns-3 c = variable-over (c .before .before .before .before .before .before .before .before .args .book .now) (c .before .before .before .before .before .before .before .before .args .session .now) (sym (c .before .before .before .before .if1 .left) ∙ c .before .before .before .before .before .validated .ensures) _ (omega (arith, c .before .wide .ensures, c .before .before .variables .ensures, c .if3 .taken))
+returns-3 c =
+    let passed = c .before .before .before .before in
+    variable-over (book passed) (session passed) (none passed) _ (omega (arith, c .before .wide .ensures, c .before .before .variables .ensures, c .if3 .taken))
 
-mul-from : tie.Need-mul-from
-mul-from c = omega (arith, c .before .before .variables .ensures, few-variables (c .before .before .before .before .before .before .before .before .args .book .now) (c .before .before .before .before .before .before .before .before .args .session .now) (sym (c .before .before .before .before .if1 .left) ∙ c .before .before .before .before .before .validated .ensures))
+mul-literal-value : tie.Need-mul-literal-value
+mul-literal-value c =
+    let passed = c .before .before .before .before in
+    omega (arith, few-variables (book passed) (session passed) (none passed), c .before .wide .ensures, c .before .before .variables .ensures, c .if3 .left)
 
-add-from : tie.Need-add-from
-add-from c = omega (arith, c .before .before .variables .ensures, few-variables (c .before .before .before .before .before .before .before .before .args .book .now) (c .before .before .before .before .before .before .before .before .args .session .now) (sym (c .before .before .before .before .if1 .left) ∙ c .before .before .before .before .before .validated .ensures))
-
-mul-to : tie.Need-mul-to
-mul-to c = omega (arith, c .before .before .variables .ensures, few-variables (c .before .before .before .before .before .before .before .before .args .book .now) (c .before .before .before .before .before .before .before .before .args .session .now) (sym (c .before .before .before .before .if1 .left) ∙ c .before .before .before .before .before .validated .ensures))
-
-add-to : tie.Need-add-to
-add-to c = omega (arith, c .before .before .variables .ensures, few-variables (c .before .before .before .before .before .before .before .before .args .book .now) (c .before .before .before .before .before .before .before .before .args .session .now) (sym (c .before .before .before .before .if1 .left) ∙ c .before .before .before .before .before .validated .ensures))
-
-mul-value-of : tie.Need-mul-value-of
-mul-value-of c = omega (arith, c .before .before .variables .ensures, few-variables (c .before .before .before .before .before .before .before .before .args .book .now) (c .before .before .before .before .before .before .before .before .args .session .now) (sym (c .before .before .before .before .if1 .left) ∙ c .before .before .before .before .before .validated .ensures))
-
-sub-value-of : tie.Need-sub-value-of
-sub-value-of c = search needs
-
-part-value-of-start : tie.Need-part-value-of-start
-part-value-of-start c = search needs
-
-part-value-of-end : tie.Need-part-value-of-end
-part-value-of-end c = omega (arith, c .before .before .variables .ensures, long (c .before .before .before .before .before .before .before .before .args .book .now) (c .before .before .before .before .before .before .before .before .args .session .now) (sym (c .before .before .before .before .if1 .left) ∙ c .before .before .before .before .before .validated .ensures))
-
-mul-value-of-2 : tie.Need-mul-value-of-2
-mul-value-of-2 c = omega (arith, c .before .before .before .variables .ensures, few-variables (c .before .before .before .before .before .before .before .before .before .args .book .now) (c .before .before .before .before .before .before .before .before .before .args .session .now) (sym (c .before .before .before .before .before .if1 .left) ∙ c .before .before .before .before .before .before .validated .ensures), c .before .before .wide .ensures, c .before .if3 .left)
-
-value-of-requires : tie.Need-value-of-requires
-value-of-requires c κs = search needs
+literal-value-requires : tie.Need-literal-value-requires
+literal-value-requires c κs =
+    let passed = c .before .before .before .before in
+    let variables = c .before .before .variables in
+    (trail-fits (book passed) (session passed) (none passed) (variables .result) (variables .ensures), omega (arith, c .before .before .before .if2 .left), omega (arith, c .before .wide .ensures, c .if3 .left))
 
 enum-told : tie.Need-enum-told
 enum-told c = search needs
@@ -71,35 +67,39 @@ enum-told-2 c = search needs
 enum-told-3 : tie.Need-enum-told-3
 enum-told-3 c = search needs
 
+-- a value that was read is shown as the variable's
+shown-is : (c : tie.After-literal-value) (value : Value) → c .literal-value .result ≡ value
+    → shownAs (book (c .before .before .before .before .before)) (session (c .before .before .before .before .before)) (none (c .before .before .before .before .before)) value ≡ lookupAnswer (book (c .before .before .before .before .before)) (session (c .before .before .before .before .before)) (start (c .before .before .before .before .before) .args .variable)
+shown-is c value e =
+    let passed = c .before .before .before .before .before in
+    let variables = c .before .before .before .variables in
+    let within = c .before .if3 .left in
+    let some = c .before .before .before .before .if2 .left in
+    ap (shownAs (book passed) (session passed) (none passed))
+    (value-answers (book passed) (session passed) (none passed) (variables .result) (2 * start passed .args .variable) value (variables .ensures) (omega (arith, some)) (omega (arith, c .before .before .wide .ensures, within)) (sym e ∙ c .literal-value .ensures))
+    ∙ variable-is (book passed) (session passed) (none passed) (start passed .args .variable) some (omega (arith, c .before .before .wide .ensures, variables .ensures, within))
+
 returns-4 : tie.Need-returns-4
-returns-4 c = ap (shownAs (c .before .before .before .before .before .before .before .before .before .before .before .before .args .book .now) (c .before .before .before .before .before .before .before .before .before .before .before .before .args .session .now) (sym (c .before .before .before .before .before .before .before .before .if1 .left) ∙ c .before .before .before .before .before .before .before .before .before .validated .ensures)) (value-answers (c .before .before .before .before .before .before .before .before .before .before .before .before .args .book .now) (c .before .before .before .before .before .before .before .before .before .before .before .before .args .session .now) (sym (c .before .before .before .before .before .before .before .before .if1 .left) ∙ c .before .before .before .before .before .before .before .before .before .validated .ensures) (c .before .before .before .before .before .before .variables .result) (2 * c .before .before .before .before .before .before .before .before .before .before .before .before .args .variable) _ (c .before .before .before .before .before .before .variables .ensures) (omega (arith, c .before .before .before .before .before .before .before .if2 .left)) (omega (arith, c .before .before .before .before .before .wide .ensures, c .before .before .before .before .if3 .left)) (sym (c .enum-told .given .1) ∙ c .before .before .value-of .ensures)) ∙ variable-is (c .before .before .before .before .before .before .before .before .before .before .before .before .args .book .now) (c .before .before .before .before .before .before .before .before .before .before .before .before .args .session .now) (sym (c .before .before .before .before .before .before .before .before .if1 .left) ∙ c .before .before .before .before .before .before .before .before .before .validated .ensures) (c .before .before .before .before .before .before .before .before .before .before .before .before .args .variable) (c .before .before .before .before .before .before .before .if2 .left) (omega (arith, c .before .before .before .before .before .wide .ensures, c .before .before .before .before .before .before .variables .ensures, c .before .before .before .before .if3 .left))
+returns-4 c = shown-is (c .before .before) _ (c .enum-told .given .1)
 
 returns-5 : tie.Need-returns-5
-returns-5 c = ap (shownAs (c .before .before .before .before .before .before .before .before .before .before .before .before .args .book .now) (c .before .before .before .before .before .before .before .before .before .before .before .before .args .session .now) (sym (c .before .before .before .before .before .before .before .before .if1 .left) ∙ c .before .before .before .before .before .before .before .before .before .validated .ensures)) (value-answers (c .before .before .before .before .before .before .before .before .before .before .before .before .args .book .now) (c .before .before .before .before .before .before .before .before .before .before .before .before .args .session .now) (sym (c .before .before .before .before .before .before .before .before .if1 .left) ∙ c .before .before .before .before .before .before .before .before .before .validated .ensures) (c .before .before .before .before .before .before .variables .result) (2 * c .before .before .before .before .before .before .before .before .before .before .before .before .args .variable) _ (c .before .before .before .before .before .before .variables .ensures) (omega (arith, c .before .before .before .before .before .before .before .if2 .left)) (omega (arith, c .before .before .before .before .before .wide .ensures, c .before .before .before .before .if3 .left)) (sym (c .enum-told2 .given .1) ∙ c .before .before .value-of .ensures)) ∙ variable-is (c .before .before .before .before .before .before .before .before .before .before .before .before .args .book .now) (c .before .before .before .before .before .before .before .before .before .before .before .before .args .session .now) (sym (c .before .before .before .before .before .before .before .before .if1 .left) ∙ c .before .before .before .before .before .before .before .before .before .validated .ensures) (c .before .before .before .before .before .before .before .before .before .before .before .before .args .variable) (c .before .before .before .before .before .before .before .if2 .left) (omega (arith, c .before .before .before .before .before .wide .ensures, c .before .before .before .before .before .before .variables .ensures, c .before .before .before .before .if3 .left))
+returns-5 c = shown-is (c .before .before) _ (c .enum-told2 .given .1)
 
 returns-6 : tie.Need-returns-6
-returns-6 c = ap (shownAs (c .before .before .before .before .before .before .before .before .before .before .before .before .args .book .now) (c .before .before .before .before .before .before .before .before .before .before .before .before .args .session .now) (sym (c .before .before .before .before .before .before .before .before .if1 .left) ∙ c .before .before .before .before .before .before .before .before .before .validated .ensures)) (value-answers (c .before .before .before .before .before .before .before .before .before .before .before .before .args .book .now) (c .before .before .before .before .before .before .before .before .before .before .before .before .args .session .now) (sym (c .before .before .before .before .before .before .before .before .if1 .left) ∙ c .before .before .before .before .before .before .before .before .before .validated .ensures) (c .before .before .before .before .before .before .variables .result) (2 * c .before .before .before .before .before .before .before .before .before .before .before .before .args .variable) _ (c .before .before .before .before .before .before .variables .ensures) (omega (arith, c .before .before .before .before .before .before .before .if2 .left)) (omega (arith, c .before .before .before .before .before .wide .ensures, c .before .before .before .before .if3 .left)) (sym (c .enum-told3 .given .1) ∙ c .before .before .value-of .ensures)) ∙ variable-is (c .before .before .before .before .before .before .before .before .before .before .before .before .args .book .now) (c .before .before .before .before .before .before .before .before .before .before .before .before .args .session .now) (sym (c .before .before .before .before .before .before .before .before .if1 .left) ∙ c .before .before .before .before .before .before .before .before .before .validated .ensures) (c .before .before .before .before .before .before .before .before .before .before .before .before .args .variable) (c .before .before .before .before .before .before .before .if2 .left) (omega (arith, c .before .before .before .before .before .wide .ensures, c .before .before .before .before .before .before .variables .ensures, c .before .before .before .before .if3 .left))
+returns-6 c = shown-is (c .before .before) _ (c .enum-told3 .given .1)
 
 pub lookup-spec : {M : Type 1} → statement M
 lookup-spec =
     tie.close
     (tie.spec
-    validated-requires
+    validate-requires
     returns
     returns-2
     variables-requires
     wide-requires
     returns-3
-    mul-from
-    add-from
-    mul-to
-    add-to
-    mul-value-of
-    sub-value-of
-    part-value-of-start
-    part-value-of-end
-    mul-value-of-2
-    value-of-requires
+    mul-literal-value
+    literal-value-requires
     enum-told
     enum-told-2
     enum-told-3

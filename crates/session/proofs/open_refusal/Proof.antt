@@ -1,33 +1,68 @@
 -- `open_refusal` meets its contract. Assumes nothing.
-use mathlib.Core.Path.{sym, _∙_}
+use Prim.Native.Nat.{ℕ}
+use mathlib.Core.Bool.{true}
+use mathlib.Core.List.{List, []}
+use mathlib.Core.Path.{_≡_, sym, ap₂, _∙_}
 use native.Mathlib.Omega.{arith}
 use borrow.Author.Needs.{needs}
 use borrow.Author.Tests.{not-true, not-false}
-use mathlib.Core.List.{[]}
-use Rattle.session.proofs.PublicLaws.{open-eleven, open-ten, open-none}
-use borrow.Author.Needs.{needs}
+use Rattle.book.specs.Numbers.{wellFormed, formulaOf}
+use Rattle.book.proofs.WellFormedLaws.{well-formed-limited}
+use Rattle.layout.specs.Layout.{required, requiredLength}
+use Rattle.session.proofs.OpenLaws.{required-is-length, open-eleven, open-ten, open-none}
 use Rattle.session.proofs.open_refusal.Statement.{statement}
 use Rattle.session.proofs.open_refusal.Tie as tie
-use Rattle.session.proofs.open_refusal.Reads as reads
-use Rattle.session.proofs.open_refusal.Lts as lts
-use Rattle.book.proofs.well_formed.Reads as well-formed-reads
-use Rattle.session.proofs.needed.Reads as needed-reads
 
 well-formed-requires : tie.Need-well-formed-requires
 well-formed-requires c κs = search needs
 
+-- the entry, the book and its form
+abbrev start : (c : tie.Else1) → tie.Start
+start c = c .before .before .before
+
+abbrev book : (c : tie.Else1) → List ℕ
+book c = start c .args .book .now
+
+well : (c : tie.Else1) → wellFormed (book c) ≡ true
+well c = sym (c .before .well-formed .ensures) ∙ not-false _ (c .if1 .left)
+
 returns : tie.Need-returns
 returns c = open-eleven (c .before .before .before .args .book .now) [] (c .before .before .before .args .room) (sym (c .before .well-formed .ensures) ∙ not-true _ (c .if1 .taken))
 
-needed-requires : tie.Need-needed-requires
-needed-requires c κs = (sym (c .before .well-formed .ensures) ∙ not-false _ (c .if1 .left))
+variables-requires : tie.Need-variables-requires
+variables-requires c κs = search needs
+
+clauses-requires : tie.Need-clauses-requires
+clauses-requires c κs = search needs
+
+required-requires : tie.Need-required-requires
+required-requires c κs =
+    let limited = well-formed-limited (book (c .before .before)) (well (c .before .before)) in
+    (omega (arith, c .before .variables .ensures), omega (arith, c .clauses .ensures))
+
+-- the length that was computed is the required one
+length-is : (c : tie.After-required) → c .required .result ≡ requiredLength (formulaOf (book (c .before .before .before)))
+length-is c =
+    c .required .ensures ∙ ap₂ required (c .before .before .variables .ensures) (c .before .clauses .ensures) ∙ required-is-length (book (c .before .before .before))
 
 returns-2 : tie.Need-returns-2
-returns-2 c = open-ten (c .before .before .before .before .before .args .book .now) [] (c .before .before .before .before .before .args .room) (sym (c .before .before .before .well-formed .ensures) ∙ not-false _ (c .before .before .if1 .left)) (omega (arith, c .before .needed .ensures, c .if2 .taken))
+returns-2 c =
+    let formed = c .before .before .before .before in
+    open-ten (book formed) [] (start formed .args .room) (well formed) (omega (arith, length-is (c .before), c .if2 .taken))
 
 returns-3 : tie.Need-returns-3
-returns-3 c = open-none (c .before .before .before .before .before .args .book .now) [] (c .before .before .before .before .before .args .room) (sym (c .before .before .before .well-formed .ensures) ∙ not-false _ (c .before .before .if1 .left)) (omega (arith, c .before .needed .ensures, c .if2 .left))
+returns-3 c =
+    let formed = c .before .before .before .before in
+    open-none (book formed) [] (start formed .args .room) (well formed) (omega (arith, length-is (c .before), c .if2 .left))
 
 pub open-refusal-spec : {M : Type 1} → statement M
 open-refusal-spec =
-    tie.close (tie.spec well-formed-requires returns needed-requires returns-2 returns-3)
+    tie.close
+    (tie.spec
+    well-formed-requires
+    returns
+    variables-requires
+    clauses-requires
+    required-requires
+    returns-2
+    returns-3)

@@ -8,17 +8,10 @@ use lib.ListN.{length}
 use Rattle.session.specs.Outcomes.{callsOf, replayNumbers}
 use Rattle.session.proofs.CallLaws.{open-accepted}
 use Rattle.session.proofs.Statements.{statement-3}
-use Rattle.session.proofs.PublicLaws.{open-done, replay-refused, replay-numbers, replay-done}
-use Rattle.session.proofs.CopyLaws.{Replaying, replaying-none, replaying-decision, replaying-backtrack, replaying-all}
+use Rattle.session.proofs.OpenLaws.{open-done, replay-refused, replay-numbers, replay-done}
+use Rattle.session.proofs.ReplayLaws.{Replaying, replaying-none, replaying-decision, replaying-backtrack, replaying-all}
 use Rattle.session.proofs.replay.Statement.{statement}
 use Rattle.session.proofs.replay.Tie as tie
-use Rattle.session.proofs.replay.Reads as reads
-use Rattle.session.proofs.replay.Lts as lts
-use Rattle.session.proofs.answered.Reads as answered-reads
-use Rattle.session.proofs.backtrack.Reads as backtrack-reads
-use Rattle.session.proofs.decide.Reads as decide-reads
-use Rattle.session.proofs.open_refusal.Reads as open-refusal-reads
-use Rattle.session.proofs.opening.open_numbers.Reads as open-numbers-reads
 
 abbrev Inv-loop : tie.InvT-loop
 Inv-loop book calls session₀ refused i₀ session i = Replaying book calls session₀ session i
@@ -26,12 +19,17 @@ Inv-loop book calls session₀ refused i₀ session i = Replaying book calls ses
 abbrev μ-loop : tie.MeasureT-loop
 μ-loop book calls session₀ refused i₀ session i = length calls - i
 
+-- the entry
+abbrev start : (c : tie.After-open-refusal Inv-loop μ-loop) → tie.Start Inv-loop μ-loop
+start c = c .before .before .before .before
+
 -- what the session is where the two kinds of a call meet
-joined : (c : tie.Joined2 Inv-loop μ-loop) → Replaying (c .before .before .before .before .before .before .before .before .before .before .before .before .before .before .args .book .now) (c .before .before .before .before .before .before .before .before .before .before .before .before .before .before .args .calls .now) (c .before .before .before .before .before .before .before .open-numbers .last .1 .0) (c .if2 .session) (c .before .before .before .before .loop .i + 2)
+joined : (c : tie.Joined2 Inv-loop μ-loop) → Replaying (start (c .before .before .before .before .before .before .before .before .before .before) .args .book .now) (start (c .before .before .before .before .before .before .before .before .before .before) .args .calls .now) (c .before .before .before .before .before .before .before .open .last .1 .0) (c .if2 .session) (c .before .before .before .before .loop .i + 2)
 joined c =
+    let here = c .before .before .before .before .before .before .before .before .before .before in
     ⊎-elim
-    (λ w. replaying-decision (c .before .before .before .before .before .before .before .before .before .before .before .before .before .before .args .book .now) (c .before .before .before .before .before .before .before .before .before .before .before .before .before .before .args .calls .now) (c .before .before .before .before .before .before .before .open-numbers .last .1 .0) (c .before .before .before .before .loop .session) _ (c .before .before .before .before .loop .i) (c .before .before .before .before .loop .inv) (c .before .before .before .loop-test .taken) (ap length (w .5) ∙ w .2 .kept .1 .0) (w .0 .taken) (w .5 ∙ w .2 .ensures .1))
-    (λ w. replaying-backtrack (c .before .before .before .before .before .before .before .before .before .before .before .before .before .before .args .book .now) (c .before .before .before .before .before .before .before .before .before .before .before .before .before .before .args .calls .now) (c .before .before .before .before .before .before .before .open-numbers .last .1 .0) (c .before .before .before .before .loop .session) _ (c .before .before .before .before .loop .i) (c .before .before .before .before .loop .inv) (c .before .before .before .loop-test .taken) (ap length (w .5) ∙ w .2 .kept .1 .0) (w .0 .left) (w .5 ∙ w .2 .ensures .1))
+    (λ w. replaying-decision (start here .args .book .now) (start here .args .calls .now) (c .before .before .before .before .before .before .before .open .last .1 .0) (c .before .before .before .before .loop .session) _ (c .before .before .before .before .loop .i) (c .before .before .before .before .loop .inv) (c .before .before .before .loop-test .taken) (ap length (w .5) ∙ w .2 .kept .1 .0) (w .0 .taken) (w .5 ∙ w .2 .ensures .1))
+    (λ w. replaying-backtrack (start here .args .book .now) (start here .args .calls .now) (c .before .before .before .before .before .before .before .open .last .1 .0) (c .before .before .before .before .loop .session) _ (c .before .before .before .before .loop .i) (c .before .before .before .before .loop .inv) (c .before .before .before .loop-test .taken) (ap length (w .5) ∙ w .2 .kept .1 .0) (w .0 .left) (w .5 ∙ w .2 .ensures .1))
     (c .if2 .came)
 
 open-refusal-requires : tie.Need-open-refusal-requires Inv-loop μ-loop
@@ -39,14 +37,16 @@ open-refusal-requires c κs = tt
 
 returns : tie.Need-returns Inv-loop μ-loop
 returns c =
-    let out = replay-refused (c .before .before .before .before .before .args .book .now) (c .before .before .before .before .before .args .session .now) (callsOf (c .before .before .before .before .before .args .calls .now)) _ (c .before .open-refusal .ensures) (c .if1 .taken) in
+    let out = replay-refused (start (c .before) .args .book .now) (start (c .before) .args .session .now) (callsOf (start (c .before) .args .calls .now)) _ (c .before .open-refusal .ensures) (c .if1 .taken) in
     (out .0, (out .1, λ z. absurd (c .if1 .taken (c .before .open-refusal .ensures ∙ z))))
 
-open-numbers-requires : tie.Need-open-numbers-requires Inv-loop μ-loop
-open-numbers-requires c κs = open-accepted (c .before .before .before .before .before .before .args .book .now) _ (sym (sym (c .before .if1 .left) ∙ c .before .before .open-refusal .ensures))
+open-requires : tie.Need-open-requires Inv-loop μ-loop
+open-requires c κs = open-accepted (start (c .before .before) .args .book .now) _ (sym (sym (c .before .if1 .left) ∙ c .before .before .open-refusal .ensures))
 
 loop-holds : tie.Need-loop-holds Inv-loop μ-loop
-loop-holds c = replaying-none (c .before .before .before .before .before .before .before .before .before .args .book .now) (c .before .before .before .before .before .before .before .before .before .args .calls .now) _
+loop-holds c =
+    let here = c .before .before .before .before .before in
+    replaying-none (start here .args .book .now) (start here .args .calls .now) _
 
 add-loop : tie.Need-add-loop Inv-loop μ-loop
 add-loop c = omega (arith, c .loop .inv .within)
@@ -82,21 +82,25 @@ loop-again : tie.Need-loop-again Inv-loop μ-loop
 loop-again c = joined c
 
 -- the session after the last call
-finished : (c : tie.After-loop Inv-loop μ-loop) → c .before .loop .session ≡ replayNumbers (c .before .before .before .before .before .before .before .before .before .before .before .args .book .now) (callsOf (c .before .before .before .before .before .before .before .before .before .before .before .args .calls .now)) (c .before .before .before .before .before .before .before .before .before .before .before .args .session .now)
+finished : (c : tie.After-loop Inv-loop μ-loop) → c .before .loop .session ≡ replayNumbers (start (c .before .before .before .before .before .before .before) .args .book .now) (callsOf (start (c .before .before .before .before .before .before .before) .args .calls .now)) (start (c .before .before .before .before .before .before .before) .args .session .now)
 finished c =
-    replay-numbers (c .before .before .before .before .before .before .before .before .before .before .before .args .book .now) (c .before .before .before .before .before .before .before .before .before .before .before .args .session .now) (callsOf (c .before .before .before .before .before .before .before .before .before .before .before .args .calls .now)) _ _ (sym (c .before .before .before .before .before .before .if1 .left) ∙ c .before .before .before .before .before .before .before .open-refusal .ensures) (open-done (c .before .before .before .before .before .before .before .before .before .before .before .args .book .now) (c .before .before .before .before .before .before .before .before .before .before .before .args .session .now) _ (sym (c .before .before .before .before .before .before .if1 .left) ∙ c .before .before .before .before .before .before .before .open-refusal .ensures) (c .before .before .before .before .open-numbers .ensures) .1)
-    (replaying-all (c .before .before .before .before .before .before .before .before .before .before .before .args .book .now) (c .before .before .before .before .before .before .before .before .before .before .before .args .calls .now) _ _ (c .before .loop .i) (c .before .loop .inv) (omega (arith, c .loop-test .left)))
+    let here = c .before .before .before .before .before .before .before in
+    replay-numbers (start here .args .book .now) (start here .args .session .now) (callsOf (start here .args .calls .now)) _ _ (sym (c .before .before .before .before .before .before .if1 .left) ∙ c .before .before .before .before .before .before .before .open-refusal .ensures) (open-done (start here .args .book .now) (start here .args .session .now) _ (sym (c .before .before .before .before .before .before .if1 .left) ∙ c .before .before .before .before .before .before .before .open-refusal .ensures) (c .before .before .before .before .open .ensures) .1)
+    (replaying-all (start here .args .book .now) (start here .args .calls .now) _ _ (c .before .loop .i) (c .before .loop .inv) (omega (arith, c .loop-test .left)))
 
 answered-requires : tie.Need-answered-requires Inv-loop μ-loop
-answered-requires c κs = (replay-done (c .before .before .before .before .before .before .before .before .before .before .before .before .args .book .now) (c .before .before .before .before .before .before .before .before .before .before .before .before .args .session .now) (callsOf (c .before .before .before .before .before .before .before .before .before .before .before .before .args .calls .now)) _ (sym (c .before .before .before .before .before .before .before .if1 .left) ∙ c .before .before .before .before .before .before .before .before .open-refusal .ensures) (finished (c .before)) .1, omega arith)
+answered-requires c κs =
+    let here = c .before .before .before .before .before .before .before .before in
+    (replay-done (start here .args .book .now) (start here .args .session .now) (callsOf (start here .args .calls .now)) _ (sym (c .before .before .before .before .before .before .before .if1 .left) ∙ c .before .before .before .before .before .before .before .before .open-refusal .ensures) (finished (c .before)) .1, omega arith)
 
 same-length : tie.Need-same-length Inv-loop μ-loop
-same-length c = c .before .before .before .loop .inv .same-length ∙ c .before .before .before .before .before .before .open-numbers .ensures .same-length
+same-length c = c .before .before .before .loop .inv .same-length ∙ c .before .before .before .before .before .before .open .ensures .same-length
 
 returns-2 : tie.Need-returns-2 Inv-loop μ-loop
 returns-2 c =
-    let done = replay-done (c .before .before .before .before .before .before .before .before .before .before .before .before .before .args .book .now) (c .before .before .before .before .before .before .before .before .before .before .before .before .before .args .session .now) (callsOf (c .before .before .before .before .before .before .before .before .before .before .before .before .before .args .calls .now)) _ (sym (c .before .before .before .before .before .before .before .before .if1 .left) ∙ c .before .before .before .before .before .before .before .before .before .open-refusal .ensures) (finished (c .before .before)) in
-    (c .answered .ensures ∙ done .0, (finished (c .before .before), statement-3 (c .before .before .before .before .before .before .before .before .before .before .before .before .before .args .book .now) (c .before .before .before .before .before .before .before .before .before .before .before .before .before .args .session .now) (callsOf (c .before .before .before .before .before .before .before .before .before .before .before .before .before .args .calls .now))))
+    let here = c .before .before .before .before .before .before .before .before .before in
+    let done = replay-done (start here .args .book .now) (start here .args .session .now) (callsOf (start here .args .calls .now)) _ (sym (c .before .before .before .before .before .before .before .before .if1 .left) ∙ c .before .before .before .before .before .before .before .before .before .open-refusal .ensures) (finished (c .before .before)) in
+    (c .answered .ensures ∙ done .0, (finished (c .before .before), statement-3 (start here .args .book .now) (start here .args .session .now) (callsOf (start here .args .calls .now))))
 
 pub replay-spec : {M : Type 1} → statement M
 replay-spec =
@@ -106,7 +110,7 @@ replay-spec =
     μ-loop
     open-refusal-requires
     returns
-    open-numbers-requires
+    open-requires
     loop-holds
     add-loop
     add-number

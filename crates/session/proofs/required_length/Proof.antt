@@ -1,33 +1,69 @@
 -- `required_length` meets its contract. Assumes nothing.
-use mathlib.Core.Path.{sym, _∙_}
+use Prim.Native.Nat.{ℕ}
+use mathlib.Core.Bool.{true}
+use mathlib.Core.List.{List, []}
+use mathlib.Core.Path.{_≡_, sym, ap₂, _∙_}
 use native.Mathlib.Omega.{arith}
 use borrow.Author.Needs.{needs}
 use borrow.Author.Tests.{not-true, not-false}
+use Rattle.book.specs.Numbers.{wellFormed, formulaOf}
 use Rattle.book.proofs.WellFormedLaws.{well-formed-limited}
-use Rattle.session.proofs.PublicLaws.{needed-is, required-eleven, required-is}
-use borrow.Author.Needs.{needs}
+use Rattle.layout.specs.Layout.{required, requiredLength}
+use Rattle.session.proofs.OpenLaws.{required-is-length, required-eleven, required-is}
 use Rattle.session.proofs.required_length.Statement.{statement}
 use Rattle.session.proofs.required_length.Tie as tie
-use Rattle.session.proofs.required_length.Reads as reads
-use Rattle.session.proofs.required_length.Lts as lts
-use Rattle.book.proofs.well_formed.Reads as well-formed-reads
-use Rattle.session.proofs.needed.Reads as needed-reads
 
 well-formed-requires : tie.Need-well-formed-requires
 well-formed-requires c κs = search needs
 
+-- the entry, the book and its form
+abbrev start : (c : tie.Else1) → tie.Start
+start c = c .before .before .before
+
+abbrev book : (c : tie.Else1) → List ℕ
+book c = start c .args .book .now
+
+well : (c : tie.Else1) → wellFormed (book c) ≡ true
+well c = sym (c .before .well-formed .ensures) ∙ not-false _ (c .if1 .left)
+
 returns : tie.Need-returns
-returns c = required-eleven (c .before .before .before .args .book .now) (c .before .before .before .args .book .now) (sym (c .before .well-formed .ensures) ∙ not-true _ (c .if1 .taken))
+returns c = required-eleven (c .before .before .before .args .book .now) [] (sym (c .before .well-formed .ensures) ∙ not-true _ (c .if1 .taken))
 
-needed-requires : tie.Need-needed-requires
-needed-requires c κs = (sym (c .before .well-formed .ensures) ∙ not-false _ (c .if1 .left))
+variables-requires : tie.Need-variables-requires
+variables-requires c κs = search needs
 
-cast-t5 : tie.Need-cast-t5
-cast-t5 c = omega (arith, c .needed .ensures, needed-is (c .before .before .before .before .args .book .now), (well-formed-limited (c .before .before .before .before .args .book .now) (sym (c .before .before .well-formed .ensures) ∙ not-false _ (c .before .if1 .left))))
+clauses-requires : tie.Need-clauses-requires
+clauses-requires c κs = search needs
+
+required-requires : tie.Need-required-requires
+required-requires c κs =
+    let limited = well-formed-limited (book (c .before .before)) (well (c .before .before)) in
+    (omega (arith, c .before .variables .ensures), omega (arith, c .clauses .ensures))
+
+-- the length that was computed is the required one
+length-is : (c : tie.After-required) → c .required .result ≡ requiredLength (formulaOf (book (c .before .before .before)))
+length-is c =
+    c .required .ensures ∙ ap₂ required (c .before .before .variables .ensures) (c .before .clauses .ensures) ∙ required-is-length (book (c .before .before .before))
+
+cast-t7 : tie.Need-cast-t7
+cast-t7 c =
+    let formed = c .before .before .before in
+    let limited = well-formed-limited (book formed) (well formed) in
+    omega (arith, c .required .ensures, c .before .before .variables .ensures, c .before .clauses .ensures)
 
 returns-2 : tie.Need-returns-2
-returns-2 c = rw (c .needed .ensures) (required-is (c .before .before .before .before .args .book .now) (c .before .before .before .before .args .book .now) (sym (c .before .before .well-formed .ensures) ∙ not-false _ (c .before .if1 .left)))
+returns-2 c =
+    let formed = c .before .before .before in
+    rw (length-is c) (required-is (book formed) [] (well formed))
 
 pub required-length-spec : {M : Type 1} → statement M
 required-length-spec =
-    tie.close (tie.spec well-formed-requires returns needed-requires cast-t5 returns-2)
+    tie.close
+    (tie.spec
+    well-formed-requires
+    returns
+    variables-requires
+    clauses-requires
+    required-requires
+    cast-t7
+    returns-2)

@@ -1,36 +1,64 @@
 -- `total` meets its contract. Assumes nothing.
-use mathlib.Core.Path.{ap, sym, _∙_}
+use Prim.Native.Nat.{ℕ, _+_, _-_}
+use mathlib.Core.List.{List}
+use mathlib.Core.Path.{_≡_, sym, ap, ap₂, _∙_}
 use native.Mathlib.Omega.{arith}
 use borrow.Author.Needs.{needs}
-use Rattle.session.proofs.PublicLaws.{total-refused, total-is, checks-part, checks-count, well, long, needed-is, few-variables, few-clauses}
+use lib.ListN.{take, drop}
 use Rattle.base.specs.Lists.{sum}
-use borrow.Author.Needs.{needs}
+use Rattle.book.specs.Numbers.{variablesOf, clausesOf, formulaOf}
+use Rattle.layout.specs.Layout.{checksAt, held}
+use Rattle.validation.specs.Validation.{readRefusal}
+use Rattle.session.proofs.PassedLaws.{few-variables, few-clauses, fits, checks-part, checks-count, total-is}
+use Rattle.session.proofs.AnswerLaws.{total-refused}
 use Rattle.session.proofs.total.Statement.{statement}
 use Rattle.session.proofs.total.Tie as tie
-use Rattle.session.proofs.total.Reads as reads
-use Rattle.session.proofs.total.Lts as lts
-use Rattle.book.proofs.clauses.Reads as clauses-reads
-use Rattle.session.proofs.copies.sum_of.Reads as sum-of-reads
-use Rattle.session.proofs.validated.Reads as validated-reads
-use Rattle.session.proofs.needed.Reads as needed-reads
 
-validated-requires : tie.Need-validated-requires
-validated-requires c κs = search needs
+validate-requires : tie.Need-validate-requires
+validate-requires c κs = search needs
+
+-- the entry, and that the session passed
+abbrev start : (c : tie.Else1) → tie.Start
+start c = c .before .before .before .before
+
+abbrev book : (c : tie.Else1) → List ℕ
+book c = start c .args .book .now
+
+abbrev session : (c : tie.Else1) → List ℕ
+session c = start c .args .session .now
+
+none : (c : tie.Else1) → 0 ≡ readRefusal (book c) (session c)
+none c = sym (c .if1 .left) ∙ c .before .validate .ensures
 
 returns : tie.Need-returns
-returns c = total-refused (c .before .before .before .before .args .book .now) (c .before .before .before .before .args .session .now) _ (c .before .validated .ensures) (c .if1 .taken)
+returns c = total-refused (c .before .before .before .before .args .book .now) (c .before .before .before .before .args .session .now) _ (c .before .validate .ensures) (c .if1 .taken)
 
 clauses-requires : tie.Need-clauses-requires
 clauses-requires c κs = search needs
 
-needed-requires : tie.Need-needed-requires
-needed-requires c κs = well (c .before .before .before .before .before .args .book .now) (c .before .before .before .before .before .args .session .now) (sym (c .before .if1 .left) ∙ c .before .before .validated .ensures)
+variables-requires : tie.Need-variables-requires
+variables-requires c κs = search needs
 
-sub-from : tie.Need-sub-from
-sub-from c = omega (arith, c .needed .ensures, c .before .clauses .ensures, needed-is (c .before .before .before .before .before .before .args .book .now), few-variables (c .before .before .before .before .before .before .args .book .now) (c .before .before .before .before .before .before .args .session .now) (sym (c .before .before .if1 .left) ∙ c .before .before .before .validated .ensures), few-clauses (c .before .before .before .before .before .before .args .book .now) (c .before .before .before .before .before .before .args .session .now) (sym (c .before .before .if1 .left) ∙ c .before .before .before .validated .ensures), long (c .before .before .before .before .before .before .args .book .now) (c .before .before .before .before .before .before .args .session .now) (sym (c .before .before .if1 .left) ∙ c .before .before .before .validated .ensures))
+checks-at-requires : tie.Need-checks-at-requires
+checks-at-requires c κs =
+    let passed = c .before .before in
+    (omega (arith, c .variables .ensures, few-variables (book passed) (session passed) (none passed)), omega (arith, c .before .clauses .ensures, few-clauses (book passed) (session passed) (none passed)))
+
+-- where the checks begin
+from-is : (c : tie.After-checks-at) → c .checks-at .result ≡ checksAt (variablesOf (book (c .before .before .before))) (clausesOf (book (c .before .before .before)))
+from-is c = c .checks-at .ensures ∙ ap₂ checksAt (c .before .variables .ensures) (c .before .before .clauses .ensures)
+
+add-sum-of : tie.Need-add-sum-of
+add-sum-of c =
+    let passed = c .before .before .before in
+    let room = fits (book passed) (session passed) (none passed) _ _ (c .before .variables .ensures) (c .before .before .clauses .ensures) in
+    omega (arith, c .checks-at .ensures)
 
 mul-sum-of : tie.Need-mul-sum-of
-mul-sum-of c = omega (arith, c .needed .ensures, c .before .clauses .ensures, needed-is (c .before .before .before .before .before .before .args .book .now), few-variables (c .before .before .before .before .before .before .args .book .now) (c .before .before .before .before .before .before .args .session .now) (sym (c .before .before .if1 .left) ∙ c .before .before .before .validated .ensures), few-clauses (c .before .before .before .before .before .before .args .book .now) (c .before .before .before .before .before .before .args .session .now) (sym (c .before .before .if1 .left) ∙ c .before .before .before .validated .ensures), long (c .before .before .before .before .before .before .args .book .now) (c .before .before .before .before .before .before .args .session .now) (sym (c .before .before .if1 .left) ∙ c .before .before .before .validated .ensures))
+mul-sum-of c =
+    let passed = c .before .before .before in
+    let room = fits (book passed) (session passed) (none passed) _ _ (c .before .variables .ensures) (c .before .before .clauses .ensures) in
+    omega (arith, c .checks-at .ensures)
 
 sub-sum-of : tie.Need-sub-sum-of
 sub-sum-of c = search needs
@@ -39,23 +67,39 @@ part-sum-of-start : tie.Need-part-sum-of-start
 part-sum-of-start c = search needs
 
 part-sum-of-end : tie.Need-part-sum-of-end
-part-sum-of-end c = omega (arith, c .needed .ensures, c .before .clauses .ensures, needed-is (c .before .before .before .before .before .before .args .book .now), few-variables (c .before .before .before .before .before .before .args .book .now) (c .before .before .before .before .before .before .args .session .now) (sym (c .before .before .if1 .left) ∙ c .before .before .before .validated .ensures), few-clauses (c .before .before .before .before .before .before .args .book .now) (c .before .before .before .before .before .before .args .session .now) (sym (c .before .before .if1 .left) ∙ c .before .before .before .validated .ensures), long (c .before .before .before .before .before .before .args .book .now) (c .before .before .before .before .before .before .args .session .now) (sym (c .before .before .if1 .left) ∙ c .before .before .before .validated .ensures))
+part-sum-of-end c =
+    let passed = c .before .before .before in
+    let room = fits (book passed) (session passed) (none passed) _ _ (c .before .variables .ensures) (c .before .before .clauses .ensures) in
+    omega (arith, c .checks-at .ensures)
+
+-- the part that is summed up
+part-is : (c : tie.After-checks-at)
+    → take (c .checks-at .result + c .before .before .clauses .result - c .checks-at .result) (drop (c .checks-at .result) (session (c .before .before .before)))
+    ≡ held (formulaOf (book (c .before .before .before))) (session (c .before .before .before)) .checks
+part-is c =
+    let passed = c .before .before .before in
+    checks-part (book passed) (session passed) (none passed) (c .checks-at .result) (c .before .before .clauses .result) (from-is c) (c .before .before .clauses .ensures)
 
 sum-of-requires : tie.Need-sum-of-requires
-sum-of-requires c κs = rw (checks-part (c .before .before .before .before .before .before .before .args .book .now) (c .before .before .before .before .before .before .before .args .session .now) (sym (c .before .before .before .if1 .left) ∙ c .before .before .before .before .validated .ensures) (c .before .needed .result) (c .before .before .clauses .result) (c .before .needed .ensures) (c .before .before .clauses .ensures)) (omega (arith, checks-count (c .before .before .before .before .before .before .before .args .book .now) (c .before .before .before .before .before .before .before .args .session .now) (sym (c .before .before .before .if1 .left) ∙ c .before .before .before .before .validated .ensures), few-clauses (c .before .before .before .before .before .before .before .args .book .now) (c .before .before .before .before .before .before .before .args .session .now) (sym (c .before .before .before .if1 .left) ∙ c .before .before .before .before .validated .ensures)))
+sum-of-requires c κs =
+    let passed = c .before .before .before .before in
+    rw (part-is (c .before)) (omega (arith, checks-count (book passed) (session passed) (none passed), few-clauses (book passed) (session passed) (none passed)))
 
 returns-2 : tie.Need-returns-2
-returns-2 c = total-is (c .before .before .before .before .before .before .before .before .args .book .now) (c .before .before .before .before .before .before .before .before .args .session .now) (sym (c .before .before .before .before .if1 .left) ∙ c .before .before .before .before .before .validated .ensures) _ (c .sum-of .ensures ∙ ap sum (checks-part (c .before .before .before .before .before .before .before .before .args .book .now) (c .before .before .before .before .before .before .before .before .args .session .now) (sym (c .before .before .before .before .if1 .left) ∙ c .before .before .before .before .before .validated .ensures) (c .before .before .needed .result) (c .before .before .before .clauses .result) (c .before .before .needed .ensures) (c .before .before .before .clauses .ensures)))
+returns-2 c =
+    let passed = c .before .before .before .before .before in
+    total-is (book passed) (session passed) (none passed) _ (c .sum-of .ensures ∙ ap sum (part-is (c .before .before)))
 
 pub total-spec : {M : Type 1} → statement M
 total-spec =
     tie.close
     (tie.spec
-    validated-requires
+    validate-requires
     returns
     clauses-requires
-    needed-requires
-    sub-from
+    variables-requires
+    checks-at-requires
+    add-sum-of
     mul-sum-of
     sub-sum-of
     part-sum-of-start

@@ -1,28 +1,42 @@
 -- `trail_from` meets its contract. Assumes nothing.
-use mathlib.Core.Path.{refl, ap, sym, _∙_}
+use Rattle.validation.specs.Validation.{readRefusal}
+use Rattle.layout.specs.Layout.{trailAt}
+use mathlib.Core.List.{List}
+use mathlib.Core.Path.{refl, ap, sym, _∙_, _≡_}
 use Prim.Native.Nat.{ℕ, _+_}
 use native.Mathlib.Omega.{arith}
 use borrow.Author.Needs.{needs}
-use Rattle.session.proofs.PublicLaws.{copy-refused, copy-is, trail-behind, trail-none, long, count-within, trail-room}
+use Rattle.session.proofs.AnswerLaws.{copy-refused}
+use Rattle.session.proofs.PassedLaws.{copy-is, trail-behind, trail-none, long, count-within, trail-inside}
 use Rattle.run.specs.Run.{trailBehind}
 use lib.ListN.{length-take, length-drop}
-use borrow.Author.Needs.{needs}
 use Rattle.session.proofs.trail_from.Statement.{statement}
 use Rattle.session.proofs.trail_from.Tie as tie
-use Rattle.session.proofs.trail_from.Reads as reads
-use Rattle.session.proofs.trail_from.Lts as lts
-use Rattle.session.proofs.copies.copy.Reads as copy-reads
-use Rattle.session.proofs.validated.Reads as validated-reads
-use Rattle.session.proofs.trail.wide.Reads as wide-reads
 
-validated-requires : tie.Need-validated-requires
-validated-requires c κs = search needs
+validate-requires : tie.Need-validate-requires
+validate-requires c κs = search needs
+
+-- the entry
+abbrev start : (c : tie.After-validate) → tie.Start
+start c = c .before .before .before .before
+
+abbrev book : (c : tie.After-validate) → List ℕ
+book c = start c .args .book .now
+
+abbrev session : (c : tie.After-validate) → List ℕ
+session c = start c .args .session .now
+
+-- the session passed
+none : (c : tie.Else1) → 0 ≡ readRefusal (book (c .before)) (session (c .before))
+none c = sym (c .if1 .left) ∙ c .before .validate .ensures
 
 returns : tie.Need-returns
-returns c = copy-refused (c .before .before .before .before .before .args .book .now) (c .before .before .before .before .before .args .session .now) (trailBehind (c .before .before .before .before .before .args .before)) (c .before .before .before .before .before .args .out .now) _ (c .before .validated .ensures) (c .if1 .taken)
+returns c = copy-refused (book (c .before)) (session (c .before)) (trailBehind (start (c .before) .args .before)) (start (c .before) .args .out .now) _ (c .before .validate .ensures) (c .if1 .taken)
 
 shared-slice-read-count : tie.Need-shared-slice-read-count
-shared-slice-read-count c = omega (arith, long (c .before .before .before .before .before .before .args .book .now) (c .before .before .before .before .before .before .args .session .now) (sym (c .before .if1 .left) ∙ c .before .before .validated .ensures))
+shared-slice-read-count c =
+    let here = c .before .before in
+    omega (arith, long (book here) (session here) (none (c .before)))
 
 slice-aggregate-copy : tie.Need-slice-aggregate-copy
 slice-aggregate-copy c = search needs
@@ -34,7 +48,9 @@ same-length : tie.Need-same-length
 same-length c = search needs
 
 returns-2 : tie.Need-returns-2
-returns-2 c = copy-is (c .before .before .before .before .before .before .before .before .before .before .before .before .args .book .now) (c .before .before .before .before .before .before .before .before .before .before .before .before .args .session .now) (sym (c .before .before .before .before .before .before .before .if1 .left) ∙ c .before .before .before .before .before .before .before .before .validated .ensures) (trailBehind (c .before .before .before .before .before .before .before .before .before .before .before .before .args .before)) _ (c .before .before .before .before .before .before .before .before .before .before .before .before .args .out .now) _ 0 (trail-none (c .before .before .before .before .before .before .before .before .before .before .before .before .args .book .now) (c .before .before .before .before .before .before .before .before .before .before .before .before .args .session .now) (sym (c .before .before .before .before .before .before .before .if1 .left) ∙ c .before .before .before .before .before .before .before .before .validated .ensures) (c .before .before .before .before .before .before .before .before .before .before .before .before .args .before) (c .before .before .before .before .before .if2 .taken)) refl (c .before .before .copy .ensures)
+returns-2 c =
+    let here = c .before .before .before .before .before .before .before .before in
+    copy-is (book here) (session here) (none (c .before .before .before .before .before .before .before)) (trailBehind (start here .args .before)) _ (start here .args .out .now) _ 0 (trail-none (book here) (session here) (none (c .before .before .before .before .before .before .before)) (start here .args .before) (c .before .before .before .before .before .if2 .taken)) refl (c .before .before .copy .ensures)
 
 wide-requires : tie.Need-wide-requires
 wide-requires c κs = search needs
@@ -46,7 +62,9 @@ wide-requires-2 : tie.Need-wide-requires-2
 wide-requires-2 c κs = search needs
 
 add-to : tie.Need-add-to
-add-to c = omega (arith, c .wide2 .ensures, count-within (c .before .before .before .before .before .before .before .before .before .args .book .now) (c .before .before .before .before .before .before .before .before .before .args .session .now) (sym (c .before .before .before .before .if1 .left) ∙ c .before .before .before .before .before .validated .ensures))
+add-to c =
+    let here = c .before .before .before .before .before in
+    omega (arith, c .wide2 .ensures, count-within (book here) (session here) (none (c .before .before .before .before)))
 
 mul-copy : tie.Need-mul-copy
 mul-copy c = search needs
@@ -58,7 +76,9 @@ part-copy-start : tie.Need-part-copy-start
 part-copy-start c = search needs
 
 part-copy-end : tie.Need-part-copy-end
-part-copy-end c = omega (arith, c .wide2 .ensures, count-within (c .before .before .before .before .before .before .before .before .before .args .book .now) (c .before .before .before .before .before .before .before .before .before .args .session .now) (sym (c .before .before .before .before .if1 .left) ∙ c .before .before .before .before .before .validated .ensures), trail-room (c .before .before .before .before .before .before .before .before .before .args .book .now) (c .before .before .before .before .before .before .before .before .before .args .session .now) (sym (c .before .before .before .before .if1 .left) ∙ c .before .before .before .before .before .validated .ensures))
+part-copy-end c =
+    let here = c .before .before .before .before .before in
+    omega (arith, c .wide2 .ensures, count-within (book here) (session here) (none (c .before .before .before .before)), trail-inside (book here) (session here) (none (c .before .before .before .before)))
 
 copy-requires-2 : tie.Need-copy-requires-2
 copy-requires-2 c κs = search needs
@@ -71,14 +91,15 @@ same-length-2 c = search needs
 
 returns-3 : tie.Need-returns-3
 returns-3 c =
-    let part = trail-behind (c .before .before .before .before .before .before .before .before .before .before .before .before .before .before .args .book .now) (c .before .before .before .before .before .before .before .before .before .before .before .before .before .before .args .session .now) (sym (c .before .before .before .before .before .before .before .before .before .if1 .left) ∙ c .before .before .before .before .before .before .before .before .before .before .validated .ensures) (c .before .before .before .before .before .before .before .before .before .before .before .before .before .before .args .before) _ _ (ap (λ (k : ℕ). 4 + k) (c .before .before .before .before .before .before .wide .ensures)) (ap (λ (k : ℕ). 4 + k) (c .before .before .before .before .before .wide2 .ensures)) (omega (arith, c .before .before .before .before .before .before .before .if2 .left)) in
-    copy-is (c .before .before .before .before .before .before .before .before .before .before .before .before .before .before .args .book .now) (c .before .before .before .before .before .before .before .before .before .before .before .before .before .before .args .session .now) (sym (c .before .before .before .before .before .before .before .before .before .if1 .left) ∙ c .before .before .before .before .before .before .before .before .before .before .validated .ensures) (trailBehind (c .before .before .before .before .before .before .before .before .before .before .before .before .before .before .args .before)) _ (c .before .before .before .before .before .before .before .before .before .before .before .before .before .before .args .out .now) _ _ part (simp (length-take, length-drop) (omega (arith, c .before .before .before .before .before .before .wide .ensures, c .before .before .before .before .before .wide2 .ensures, trail-room (c .before .before .before .before .before .before .before .before .before .before .before .before .before .before .args .book .now) (c .before .before .before .before .before .before .before .before .before .before .before .before .before .before .args .session .now) (sym (c .before .before .before .before .before .before .before .before .before .if1 .left) ∙ c .before .before .before .before .before .before .before .before .before .before .validated .ensures), c .before .before .before .before .before .before .before .if2 .left))) (c .before .before .copy2 .ensures)
+    let here = c .before .before .before .before .before .before .before .before .before .before in
+    let part = trail-behind (book here) (session here) (none (c .before .before .before .before .before .before .before .before .before)) (start here .args .before) _ _ (ap (λ (k : ℕ). trailAt + k) (c .before .before .before .before .before .before .wide .ensures)) (ap (λ (k : ℕ). trailAt + k) (c .before .before .before .before .before .wide2 .ensures)) (omega (arith, c .before .before .before .before .before .before .before .if2 .left)) in
+    copy-is (book here) (session here) (none (c .before .before .before .before .before .before .before .before .before)) (trailBehind (start here .args .before)) _ (start here .args .out .now) _ _ part (simp (length-take, length-drop) (omega (arith, c .before .before .before .before .before .before .wide .ensures, c .before .before .before .before .before .wide2 .ensures, trail-inside (book here) (session here) (none (c .before .before .before .before .before .before .before .before .before)), c .before .before .before .before .before .before .before .if2 .left))) (c .before .before .copy2 .ensures)
 
 pub trail-from-spec : {M : Type 1} → statement M
 trail-from-spec =
     tie.close
     (tie.spec
-    validated-requires
+    validate-requires
     returns
     shared-slice-read-count
     slice-aggregate-copy

@@ -3,25 +3,19 @@ use borrow.Author.Tests.{eq-eqb, ne-eqb}
 use Rattle.book.specs.Text.{blank}
 use Rattle.book.proofs.bytes.is_blank.Statement.{statement}
 use Rattle.book.proofs.bytes.is_blank.Tie as tie
-use Rattle.book.proofs.bytes.is_blank.Reads as reads
-use Rattle.book.proofs.bytes.is_blank.Lts as lts
 
--- src/bytes.rt:26:9
 returns : tie.Need-returns
 unfolding blank
 returns c = rw (eq-eqb _ _ (c .if1 .taken))
 
--- src/bytes.rt:29:9
 returns-2 : tie.Need-returns-2
 unfolding blank
 returns-2 c = rw (ne-eqb _ _ (c .before .if1 .left), eq-eqb _ _ (c .if2 .taken))
 
--- src/bytes.rt:32:9
 returns-3 : tie.Need-returns-3
 unfolding blank
 returns-3 c = rw (ne-eqb _ _ (c .before .before .if1 .left), ne-eqb _ _ (c .before .if2 .left), eq-eqb _ _ (c .if3 .taken))
 
--- src/bytes.rt:22:1
 returns-4 : tie.Need-returns-4
 unfolding blank
 returns-4 c = rw (ne-eqb _ _ (c .before .before .if1 .left), ne-eqb _ _ (c .before .if2 .left), ne-eqb _ _ (c .if3 .left))

@@ -7,9 +7,6 @@ use Rattle.base.proofs.Until.{Running, running-start, running-step, running-sto
 use Rattle.book.specs.Text.{blank}
 use Rattle.book.proofs.bytes.word_end.Statement.{statement}
 use Rattle.book.proofs.bytes.word_end.Tie as tie
-use Rattle.book.proofs.bytes.word_end.Reads as reads
-use Rattle.book.proofs.bytes.word_end.Lts as lts
-use Rattle.book.proofs.bytes.is_blank.Reads as is-blank-reads
 
 abbrev Inv-loop : tie.InvT-loop
 Inv-loop text at i₀ i = Running blank text at i
@@ -17,35 +14,27 @@ Inv-loop text at i₀ i = Running blank text at i
 abbrev μ-loop : tie.MeasureT-loop
 μ-loop text at i₀ i = length text - i
 
--- src/bytes.rt:43:5
 loop-holds : tie.Need-loop-holds Inv-loop μ-loop
 loop-holds c = running-start blank (c .before .args .text .now) (c .before .args .at) (c .before .pre)
 
--- src/bytes.rt:44:21
 shared-slice-read-is-blank : tie.Need-shared-slice-read-is-blank Inv-loop μ-loop
 shared-slice-read-is-blank c = search needs
 
--- src/bytes.rt:44:12
 is-blank-requires : tie.Need-is-blank-requires Inv-loop μ-loop
 is-blank-requires c κs = tt
 
--- src/bytes.rt:45:13
 returns : tie.Need-returns Inv-loop μ-loop
 returns c = running-stop blank (c .before .before .before .before .before .before .args .text .now) (c .before .before .before .before .before .before .args .at) (c .before .before .before .before .loop .i) (c .before .before .before .before .loop .inv) (search needs) (sym (c .before .is-blank .ensures) ∙ c .if1 .taken)
 
--- src/bytes.rt:47:9
 add-i : tie.Need-add-i Inv-loop μ-loop
 add-i c = search needs
 
--- src/bytes.rt:43:5
 loop-less : tie.Need-loop-less Inv-loop μ-loop
 loop-less c = search needs
 
--- src/bytes.rt:43:5
 loop-again : tie.Need-loop-again Inv-loop μ-loop
 loop-again c = running-step blank (c .before .before .before .before .before .before .args .text .now) (c .before .before .before .before .before .before .args .at) (c .before .before .before .before .loop .i) (c .before .before .before .before .loop .inv) (search needs) (sym (c .before .is-blank .ensures) ∙ c .if1 .left)
 
--- src/bytes.rt:38:1
 returns-2 : tie.Need-returns-2 Inv-loop μ-loop
 returns-2 c = running-end blank (c .before .before .before .args .text .now) (c .before .before .before .args .at) (c .before .loop .i) (c .before .loop .inv) (search needs)
 

@@ -8,10 +8,6 @@ use lib.ListN.{length}
 use Rattle.book.proofs.CursorLaws.{Gap, gap-none, gap-blank, gap-line, gap-ends, gap-ends-last}
 use Rattle.book.proofs.cursor.gap_end.Statement.{statement}
 use Rattle.book.proofs.cursor.gap_end.Tie as tie
-use Rattle.book.proofs.cursor.gap_end.Reads as reads
-use Rattle.book.proofs.cursor.gap_end.Lts as lts
-use Rattle.book.proofs.bytes.is_blank.Reads as is-blank-reads
-use Rattle.book.proofs.cursor.line_start.Reads as line-start-reads
 
 abbrev Inv-loop : tie.InvT-loop
 Inv-loop text at i₀ i = Gap text at i
@@ -32,16 +28,16 @@ line-start-requires : tie.Need-line-start-requires Inv-loop μ-loop
 line-start-requires c κs = search needs
 
 loop-less : tie.Need-loop-less Inv-loop μ-loop
-loop-less c = omega (arith, c .line-start .ensures .ahead)
+loop-less c = omega arith
 
 loop-again : tie.Need-loop-again Inv-loop μ-loop
-loop-again c = gap-line (c .before .before .before .before .before .before .args .text .now) (c .before .before .before .before .before .before .args .at) (c .before .before .before .before .loop .i) _ (c .before .before .before .before .loop .inv) (search needs) (c .before .if1 .taken) (c .line-start .ensures)
+loop-again c = gap-line _ _ _ _ (c .before .before .before .before .loop .inv) (search needs) (c .before .if1 .taken) (c .line-start .ensures)
 
 is-blank-requires : tie.Need-is-blank-requires Inv-loop μ-loop
 is-blank-requires c κs = tt
 
 returns : tie.Need-returns Inv-loop μ-loop
-returns c = gap-ends (c .before .before .before .before .before .before .before .args .text .now) (c .before .before .before .before .before .before .before .args .at) _ (c .before .before .before .before .before .loop .inv) (sym (c .before .is-blank .ensures) ∙ not-true _ (c .if2 .taken))
+returns c = gap-ends _ _ _ (c .before .before .before .before .before .loop .inv) (sym (c .before .is-blank .ensures) ∙ not-true _ (c .if2 .taken))
 
 add-i : tie.Need-add-i Inv-loop μ-loop
 add-i c = search needs
@@ -50,10 +46,10 @@ loop-less-2 : tie.Need-loop-less-2 Inv-loop μ-loop
 loop-less-2 c = search needs
 
 loop-again-2 : tie.Need-loop-again-2 Inv-loop μ-loop
-loop-again-2 c = gap-blank (c .before .before .before .before .before .before .before .args .text .now) (c .before .before .before .before .before .before .before .args .at) (c .before .before .before .before .before .loop .i) (c .before .before .before .before .before .loop .inv) (search needs) (c .before .before .if1 .left) (sym (c .before .is-blank .ensures) ∙ not-false _ (c .if2 .left))
+loop-again-2 c = gap-blank _ _ _ (c .before .before .before .before .before .loop .inv) (search needs) (c .before .before .if1 .left) (sym (c .before .is-blank .ensures) ∙ not-false _ (c .if2 .left))
 
 returns-2 : tie.Need-returns-2 Inv-loop μ-loop
-returns-2 c = gap-ends-last (c .before .before .before .args .text .now) (c .before .before .before .args .at) _ (c .before .loop .inv) (search needs)
+returns-2 c = gap-ends-last _ _ _ (c .before .loop .inv) (search needs)
 
 pub gap-end-spec : {M : Type 1} → statement M
 gap-end-spec =

@@ -5,9 +5,6 @@ use lib.ListN.{length}
 use Rattle.book.proofs.CursorLaws.{Skipped, skipped-none, skipped-line, line-falls, line-starts, line-starts-last}
 use Rattle.book.proofs.cursor.line_start.Statement.{statement}
 use Rattle.book.proofs.cursor.line_start.Tie as tie
-use Rattle.book.proofs.cursor.line_start.Reads as reads
-use Rattle.book.proofs.cursor.line_start.Lts as lts
-use Rattle.book.proofs.cursor.next_line.Reads as next-line-reads
 
 abbrev Inv-loop : tie.InvT-loop
 Inv-loop text at i₀ i = Skipped text at i
@@ -22,7 +19,7 @@ shared-slice-read-if1 : tie.Need-shared-slice-read-if1 Inv-loop μ-loop
 shared-slice-read-if1 c = search needs
 
 returns : tie.Need-returns Inv-loop μ-loop
-returns c = line-starts (c .before .before .before .before .before .args .text .now) (c .before .before .before .before .before .args .at) _ (c .before .before .before .loop .inv) (search needs) (c .if1 .taken)
+returns c = line-starts _ _ _ (c .before .before .before .loop .inv) (search needs) (c .if1 .taken)
 
 next-line-requires : tie.Need-next-line-requires Inv-loop μ-loop
 next-line-requires c κs = search needs
@@ -31,10 +28,10 @@ loop-less : tie.Need-loop-less Inv-loop μ-loop
 loop-less c = rw (c .next-line .ensures) (line-falls (c .before .before .before .before .before .before .args .text .now) (c .before .before .before .before .before .before .args .at) (c .before .before .before .before .loop .i) (search needs))
 
 loop-again : tie.Need-loop-again Inv-loop μ-loop
-loop-again c = rw (c .next-line .ensures) (skipped-line (c .before .before .before .before .before .before .args .text .now) (c .before .before .before .before .before .before .args .at) (c .before .before .before .before .loop .i) (c .before .before .before .before .loop .inv) (search needs) (c .before .if1 .left))
+loop-again c = rw (c .next-line .ensures) (skipped-line _ _ _ (c .before .before .before .before .loop .inv) (search needs) (c .before .if1 .left))
 
 returns-2 : tie.Need-returns-2 Inv-loop μ-loop
-returns-2 c = line-starts-last (c .before .before .before .args .text .now) (c .before .before .before .args .at) _ (c .before .loop .inv) (search needs)
+returns-2 c = line-starts-last _ _ _ (c .before .loop .inv) (search needs)
 
 pub line-start-spec : {M : Type 1} → statement M
 line-start-spec =

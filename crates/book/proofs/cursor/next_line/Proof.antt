@@ -3,12 +3,8 @@ use native.Mathlib.Omega.{arith}
 use borrow.Author.Needs.{needs}
 use lib.ListN.{drop, length-drop}
 use Rattle.book.proofs.CursorLaws.{line-closed, line-open}
-use borrow.Author.Needs.{needs}
 use Rattle.book.proofs.cursor.next_line.Statement.{statement}
 use Rattle.book.proofs.cursor.next_line.Tie as tie
-use Rattle.book.proofs.cursor.next_line.Reads as reads
-use Rattle.book.proofs.cursor.next_line.Lts as lts
-use Rattle.book.proofs.bytes.line_end.Reads as line-end-reads
 
 line-end-requires : tie.Need-line-end-requires
 line-end-requires c κs = search needs

@@ -7,9 +7,6 @@ use lib.ListN.{length}
 use Rattle.book.proofs.CursorLaws.{Space, space-none, space-blank, space-ends-line, space-ends-word, space-ends-last}
 use Rattle.book.proofs.cursor.space_end.Statement.{statement}
 use Rattle.book.proofs.cursor.space_end.Tie as tie
-use Rattle.book.proofs.cursor.space_end.Reads as reads
-use Rattle.book.proofs.cursor.space_end.Lts as lts
-use Rattle.book.proofs.bytes.is_blank.Reads as is-blank-reads
 
 abbrev Inv-loop : tie.InvT-loop
 Inv-loop text at i₀ i = Space text at i
@@ -24,13 +21,13 @@ shared-slice-read-byte : tie.Need-shared-slice-read-byte Inv-loop μ-loop
 shared-slice-read-byte c = search needs
 
 returns : tie.Need-returns Inv-loop μ-loop
-returns c = space-ends-line (c .before .before .before .before .before .args .text .now) (c .before .before .before .before .before .args .at) _ (c .before .before .before .loop .inv) (c .if1 .taken)
+returns c = space-ends-line (c .before .before .before .loop .inv) (c .if1 .taken)
 
 is-blank-requires : tie.Need-is-blank-requires Inv-loop μ-loop
 is-blank-requires c κs = tt
 
 returns-2 : tie.Need-returns-2 Inv-loop μ-loop
-returns-2 c = space-ends-word (c .before .before .before .before .before .before .before .args .text .now) (c .before .before .before .before .before .before .before .args .at) _ (c .before .before .before .before .before .loop .inv) (sym (c .before .is-blank .ensures) ∙ not-true _ (c .if2 .taken))
+returns-2 c = space-ends-word (c .before .before .before .before .before .loop .inv) (sym (c .before .is-blank .ensures) ∙ not-true _ (c .if2 .taken))
 
 add-i : tie.Need-add-i Inv-loop μ-loop
 add-i c = search needs
@@ -39,10 +36,10 @@ loop-less : tie.Need-loop-less Inv-loop μ-loop
 loop-less c = search needs
 
 loop-again : tie.Need-loop-again Inv-loop μ-loop
-loop-again c = space-blank (c .before .before .before .before .before .before .before .args .text .now) (c .before .before .before .before .before .before .before .args .at) (c .before .before .before .before .before .loop .i) (c .before .before .before .before .before .loop .inv) (search needs) (c .before .before .if1 .left) (sym (c .before .is-blank .ensures) ∙ not-false _ (c .if2 .left))
+loop-again c = space-blank (c .before .before .before .before .before .loop .inv) (search needs) (c .before .before .if1 .left) (sym (c .before .is-blank .ensures) ∙ not-false _ (c .if2 .left))
 
 returns-3 : tie.Need-returns-3 Inv-loop μ-loop
-returns-3 c = space-ends-last (c .before .before .before .args .text .now) (c .before .before .before .args .at) _ (c .before .loop .inv) (search needs)
+returns-3 c = space-ends-last (c .before .loop .inv) (search needs)
 
 pub space-end-spec : {M : Type 1} → statement M
 space-end-spec =

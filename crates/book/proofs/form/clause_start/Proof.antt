@@ -7,17 +7,17 @@ use borrow.Author.Needs.{needs}
 use Rattle.book.proofs.form.clause_start.Statement.{statement}
 use Rattle.book.proofs.form.clause_start.Tie as tie
 
-number-requires : tie.Need-number-requires
-number-requires c κs = search needs
+number-at-requires : tie.Need-number-at-requires
+number-at-requires c κs = search needs
 
 add-literals : tie.Need-add-literals
 add-literals c = search needs
 
-add-number : tie.Need-add-number
-add-number c = search needs
+add-number-at : tie.Need-add-number-at
+add-number-at c = search needs
 
-number-requires-2 : tie.Need-number-requires-2
-number-requires-2 c κs = search needs
+number-at-requires-2 : tie.Need-number-at-requires-2
+number-at-requires-2 c κs = search needs
 
 add-result : tie.Need-add-result
 add-result c = search needs
@@ -35,10 +35,10 @@ pub clause-start-spec : {M : Type 1} → statement M
 clause-start-spec =
     tie.close
     (tie.spec
-    number-requires
+    number-at-requires
     add-literals
-    add-number
-    number-requires-2
+    add-number-at
+    number-at-requires-2
     add-result
     returns
     returns-2)

@@ -1,6 +1,7 @@
 -- `book::form::clauses_sound` meets its contract. The loop's invariant: what is left to look at decides, and no mark is above the
 -- last clause's tag. The measure is how many are left. Assumes nothing.
 use Prim.Native.Nat.{ℕ, _+_, _-_, _≤_}
+use mathlib.Core.List.{List}
 use mathlib.Core.Path.{_≡_, sym, _∙_, ap}
 use native.Mathlib.Omega.{arith}
 use borrow.Author.Tests.{not-true, not-false}
@@ -71,26 +72,36 @@ add-end-2 c = omega arith
 add-tag : tie.Need-add-tag Inv-loop μ-loop
 add-tag c = omega arith
 
+-- the book, C and the clause's number, where the clause has been read
+abbrev book-of : tie.After-wide2 Inv-loop μ-loop → List ℕ
+book-of c = c .before .before .before .before .before .before .before .args .book .now
+
+abbrev clauses-of : tie.After-wide2 Inv-loop μ-loop → ℕ
+clauses-of c = c .before .before .before .before .before .before .before .args .clauses
+
+abbrev clause-of : tie.After-wide2 Inv-loop μ-loop → ℕ
+clause-of c = c .before .before .before .before .before .loop .c
+
 -- the places at which the clause begins and ends, as they were read
 begins : (c : tie.After-wide2 Inv-loop μ-loop)
-    → c .before .before .before .before .before .before .before .args .clauses + 4 + c .before .before .wide .result
-    ≡ clauseStart (c .before .before .before .before .before .before .before .args .book .now) (c .before .before .before .before .before .loop .c)
-begins c = omega (arith, c .before .before .wide .ensures .0, c .before .before .before .before .before .before .before .pre .1)
+    → clauses-of c + 4 + c .before .before .wide .result
+    ≡ clauseStart (book-of c) (clause-of c)
+begins c = omega arith
 
 ends : (c : tie.After-wide2 Inv-loop μ-loop)
-    → c .before .before .before .before .before .before .before .args .clauses + 4 + c .wide2 .result
-    ≡ clauseStart (c .before .before .before .before .before .before .before .args .book .now) (c .before .before .before .before .before .loop .c + 1)
+    → clauses-of c + 4 + c .wide2 .result
+    ≡ clauseStart (book-of c) (clause-of c + 1)
 ends c =
-    let same : 4 + c .before .before .before .before .before .loop .c ≡ 3 + (c .before .before .before .before .before .loop .c + 1) = omega arith in
-    let read = c .wide2 .ensures .0 ∙ ap (λ (i : ℕ). getD (c .before .before .before .before .before .before .before .args .book .now) i 0) same in
+    let same : 4 + clause-of c ≡ 3 + (clause-of c + 1) = omega arith in
+    let read = c .wide2 .ensures .0 ∙ ap (λ (i : ℕ). getD (book-of c) i 0) same in
     omega (arith, read, c .before .before .before .before .before .before .before .pre .1)
 
 -- the clause lies within the book
 inside : (c : tie.After-wide2 Inv-loop μ-loop)
     → (c .before .before .wide .result ≤ c .wide2 .result)
-    × (c .before .before .before .before .before .before .before .args .clauses + 4 + c .wide2 .result ≤ length (c .before .before .before .before .before .before .before .args .book .now))
+    × (clauses-of c + 4 + c .wide2 .result ≤ length (book-of c))
 inside c =
-    let bounds = clause-inside _ (c .before .before .before .before .before .before .before .pre .0) (c .before .before .before .before .before .loop .c) _ _ (omega arith) (begins c) (ends c) in
+    let bounds = clause-inside _ (c .before .before .before .before .before .before .before .pre .0) (clause-of c) _ _ (omega arith) (begins c) (ends c) in
     (omega (arith, bounds), bounds .1)
 
 mul-clause-sound : tie.Need-mul-clause-sound Inv-loop μ-loop
@@ -112,20 +123,20 @@ clause-sound-requires c κs =
 -- the answer is the clause's
 clause-answer : (c : tie.After-clause-sound Inv-loop μ-loop)
     → c .clause-sound .result
-    ≡ soundClause (c .before .before .before .before .before .before .before .before .before .before .args .variables) (clauseAt (c .before .before .before .before .before .before .before .before .before .before .args .book .now) (c .before .before .before .before .before .before .before .before .loop .c))
+    ≡ soundClause (c .before .before .before .before .before .before .before .before .before .before .args .variables) (clauseAt (book-of (c .before .before .before)) (clause-of (c .before .before .before)))
 clause-answer c =
     c .clause-sound .ensures .0
     ∙ ap
     (soundClause (c .before .before .before .before .before .before .before .before .before .before .args .variables))
-    (clause-between _ (c .before .before .before .before .before .before .before .before .loop .c) _ _ (begins (c .before .before .before)) (ends (c .before .before .before)))
+    (clause-between _ (clause-of (c .before .before .before)) _ _ (begins (c .before .before .before)) (ends (c .before .before .before)))
 
 returns : tie.Need-returns Inv-loop μ-loop
 returns c =
     sym
     (clauses-stop
-    (c .before .before .before .before .before .before .before .before .before .before .before .args .book .now)
-    (c .before .before .before .before .before .before .before .before .before .loop .c)
-    (c .before .before .before .before .before .before .before .before .before .before .before .args .clauses)
+    (book-of (c .before .before .before .before))
+    (clause-of (c .before .before .before .before))
+    (clauses-of (c .before .before .before .before))
     (c .before .before .before .before .before .before .before .before .before .before .before .args .variables)
     (omega arith)
     (sym (clause-answer (c .before)) ∙ not-true _ (c .if1 .taken)))
@@ -144,9 +155,9 @@ loop-again c = (
   c .before .clause-sound .ensures .1,
   sym
       (clauses-more
-      (c .before .before .before .before .before .before .before .before .before .before .before .args .book .now)
-      (c .before .before .before .before .before .before .before .before .before .loop .c)
-      (c .before .before .before .before .before .before .before .before .before .before .before .args .clauses)
+      (book-of (c .before .before .before .before))
+      (clause-of (c .before .before .before .before))
+      (clauses-of (c .before .before .before .before))
       (c .before .before .before .before .before .before .before .before .before .before .before .args .variables)
       (omega arith)
       (sym (clause-answer (c .before)) ∙ not-false _ (c .if1 .left)))

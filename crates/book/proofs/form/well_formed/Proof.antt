@@ -1,6 +1,7 @@
 -- `book::form::well_formed` meets its contract: each early return answers a part of the form that fails. Assumes nothing.
-use Prim.Native.Nat.{_+_}
+use Prim.Native.Nat.{ℕ, _+_}
 use mathlib.Core.Bool.{false≢true}
+use mathlib.Core.List.{List}
 use mathlib.Core.Path.{_≡_, sym, _∙_, ap, ap₂}
 use native.Mathlib.Omega.{arith}
 use borrow.Author.Needs.{needs}
@@ -14,14 +15,14 @@ use Rattle.book.proofs.WellFormedLaws.{Limited, clauses-decide, not-wel
 use Rattle.book.proofs.form.well_formed.Statement.{statement}
 use Rattle.book.proofs.form.well_formed.Tie as tie
 
-number-requires : tie.Need-number-requires
-number-requires c κs = search needs
+number-at-requires : tie.Need-number-at-requires
+number-at-requires c κs = search needs
 
-number-requires-2 : tie.Need-number-requires-2
-number-requires-2 c κs = search needs
+number-at-requires-2 : tie.Need-number-at-requires-2
+number-at-requires-2 c κs = search needs
 
-number-requires-3 : tie.Need-number-requires-3
-number-requires-3 c κs = search needs
+number-at-requires-3 : tie.Need-number-at-requires-3
+number-at-requires-3 c κs = search needs
 
 add-if1 : tie.Need-add-if1
 add-if1 c = search needs
@@ -29,29 +30,33 @@ add-if1 c = search needs
 add-if1-2 : tie.Need-add-if1-2
 add-if1-2 c = search needs
 
+-- the book as it was given
+abbrev entry : tie.After-number-at5 → List ℕ
+entry c = c .before .before .before .before .before .before .before .before .args .book .now
+
 -- the last start, and whether the starts rise, at C as it was read
-last-start : (c : tie.After-number5)
-    → c .number5 .result
+last-start : (c : tie.After-number-at5)
+    → c .number-at5 .result
     ≡ startOf
-    (c .before .before .before .before .before .before .before .before .args .book .now)
-    (clausesOf (c .before .before .before .before .before .before .before .before .args .book .now))
+    (entry c)
+    (clausesOf (entry c))
 last-start c =
-    c .number5 .ensures .0
-    ∙ ap (λ k. getD (c .before .before .before .before .before .before .before .before .args .book .now) (3 + k) 0) (c .before .before .before .before .before .number2 .ensures .0)
+    c .number-at5 .ensures .0
+    ∙ ap (λ k. getD (entry c) (3 + k) 0) (c .before .before .before .before .before .number-at2 .ensures .0)
 
 starts-answer : (c : tie.After-starts-rise)
     → c .starts-rise .result
     ≡ rising
-    (c .before .before .before .before .before .before .before .before .before .before .args .book .now)
+    (entry (c .before .before))
     0
-    (clausesOf (c .before .before .before .before .before .before .before .before .before .before .args .book .now))
+    (clausesOf (entry (c .before .before)))
 starts-answer c =
     c .starts-rise .ensures
-    ∙ ap (rising (c .before .before .before .before .before .before .before .before .before .before .args .book .now) 0) (c .before .before .before .before .before .before .before .number2 .ensures .0)
+    ∙ ap (rising (entry (c .before .before)) 0) (c .before .before .before .before .before .before .before .number-at2 .ensures .0)
 
 -- behind the tests of the starts
 numbers-parted : (c : tie.Else4)
-    → Parted (c .before .before .before .before .before .before .before .before .before .before .before .args .book .now)
+    → Parted (entry (c .before .before .before))
 numbers-parted c =
     record {
       long = omega arith;
@@ -62,23 +67,23 @@ numbers-parted c =
 
 -- behind the tests of V, C and L
 numbers-limited : (c : tie.Else8)
-    → Limited (c .before .before .before .before .before .before .before .before .before .before .before .before .before .before .before .args .book .now)
+    → Limited (entry (c .before .before .before .before .before .before .before))
 numbers-limited c = omega arith
 
 returns : tie.Need-returns
 returns c = sym (not-well-formed _ (λ parted limited. omega arith))
 
-number-requires-4 : tie.Need-number-requires-4
-number-requires-4 c κs = search needs
+number-at-requires-4 : tie.Need-number-at-requires-4
+number-at-requires-4 c κs = search needs
 
 returns-2 : tie.Need-returns-2
 returns-2 c = sym (not-well-formed _ (λ parted limited. omega arith))
 
-add-number : tie.Need-add-number
-add-number c = search needs
+add-number-at : tie.Need-add-number-at
+add-number-at c = search needs
 
-number-requires-5 : tie.Need-number-requires-5
-number-requires-5 c κs = search needs
+number-at-requires-5 : tie.Need-number-at-requires-5
+number-at-requires-5 c κs = search needs
 
 returns-3 : tie.Need-returns-3
 returns-3 c = sym (not-well-formed _ (λ parted limited. omega (arith, last-start (c .before))))
@@ -111,25 +116,25 @@ returns-9 c =
     c .clauses-sound .ensures
     ∙ ap₂
     (λ v n.
-    all (soundClause v) (clausesFrom (c .before .before .before .before .before .before .before .before .before .before .before .before .before .before .before .before .args .book .now) 0 n))
-    (c .before .before .before .before .before .before .before .before .before .before .before .before .before .before .number .ensures .0)
-    (c .before .before .before .before .before .before .before .before .before .before .before .before .before .number2 .ensures .0)
+    all (soundClause v) (clausesFrom (entry (c .before .before .before .before .before .before .before .before)) 0 n))
+    (c .before .before .before .before .before .before .before .before .before .before .before .before .before .before .number-at .ensures .0)
+    (c .before .before .before .before .before .before .before .before .before .before .before .before .before .number-at2 .ensures .0)
     ∙ sym (clauses-decide _ (numbers-parted (c .before .before .before .before .before)) (numbers-limited (c .before)))
 
 pub well-formed-spec : {M : Type 1} → statement M
 well-formed-spec =
     tie.close
     (tie.spec
-    number-requires
-    number-requires-2
-    number-requires-3
+    number-at-requires
+    number-at-requires-2
+    number-at-requires-3
     add-if1
     add-if1-2
     returns
-    number-requires-4
+    number-at-requires-4
     returns-2
-    add-number
-    number-requires-5
+    add-number-at
+    number-at-requires-5
     returns-3
     starts-rise-requires
     returns-4

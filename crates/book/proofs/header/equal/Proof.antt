@@ -6,8 +6,6 @@ use lib.ListN.{length}
 use Rattle.base.proofs.Same.{Alike, same-lengths, alike-none, alike-more, alike-not, alike-all}
 use Rattle.book.proofs.header.equal.Statement.{statement}
 use Rattle.book.proofs.header.equal.Tie as tie
-use Rattle.book.proofs.header.equal.Reads as reads
-use Rattle.book.proofs.header.equal.Lts as lts
 
 abbrev Inv-loop : tie.InvT-loop
 Inv-loop a b i₀ i = Alike a b i

@@ -1,43 +1,78 @@
 -- `header_at` meets its contract: each way out says which word of the header fails, or that all pass. Assumes nothing.
+use Prim.Native.Nat.{ℕ}
 use mathlib.Core.Path.{_≡_, ap₂, _∙_, subst}
-use mathlib.Core.List.{[], _∷_}
+use mathlib.Core.List.{List, [], _∷_}
 use native.Mathlib.Omega.{arith}
 use borrow.Author.Tests.{eq-eqb, ne-eqb}
 use Rattle.book.specs.Text.{header, unsigned, decimal}
 use Rattle.book.specs.Inner.Steps.{SteppedInLine}
 use Rattle.book.specs.Inner.Heads.{WordPasses, KeywordSays, FieldSays}
+use Rattle.book.specs.declared.cursor.LineWord.{LineWord}
+use Rattle.book.specs.declared.header.Keyword.{Keyword}
+use Rattle.book.specs.declared.header.Field.{Field}
 use Rattle.base.proofs.Lists.{begins-at, begins-end}
 use Rattle.book.proofs.HeaderLaws.{isP, isCnf, first-fails, second-fails, third-fails, fourth-fails, fifth-word, well-headed, tokens-behind, malformed-first, malformed-words, well-formed-header}
 use borrow.Author.Needs.{needs}
 use Rattle.book.proofs.header.header_at.Statement.{statement}
 use Rattle.book.proofs.header.header_at.Tie as tie
-use Rattle.book.proofs.header.header_at.Reads as reads
-use Rattle.book.proofs.header.header_at.Lts as lts
-use Rattle.book.proofs.cursor.Cursor.next_in_line.Reads as next-in-line-reads
-use Rattle.book.proofs.header.next_field.Reads as next-field-reads
-use Rattle.book.proofs.header.next_keyword.Reads as next-keyword-reads
+
+-- the text and the place, as they were given
+abbrev text-of : tie.After-next-keyword → List ℕ
+text-of c = c .before .before .before .before .before .before .args .text .now
+
+abbrev start-of : tie.After-next-keyword → ℕ
+start-of c = c .before .before .before .before .before .before .args .at
+
+-- what each step says, by its answer
+p-says : (c : tie.After-next-keyword) {k : Keyword} → c .next-keyword .result ≡ k → KeywordSays (text-of c) (start-of c) (112 ∷ []) k
+p-says c e = subst (KeywordSays (text-of c) (start-of c) (112 ∷ [])) e (c .next-keyword .ensures)
+
+cnf-says : (c : tie.After-next-keyword2) {k : Keyword} → c .next-keyword2 .result ≡ k
+    → KeywordSays (text-of (c .before .before .before .before .before)) (c .before .before .before .behind-p .given .0 .0 .at) (99 ∷ 110 ∷ 102 ∷ []) k
+cnf-says c e =
+    subst (KeywordSays (text-of (c .before .before .before .before .before)) (c .before .before .before .behind-p .given .0 .0 .at) (99 ∷ 110 ∷ 102 ∷ [])) e (c .next-keyword2 .ensures)
+
+variables-say : (c : tie.After-next-field) {f : Field} → c .next-field .result ≡ f
+    → FieldSays (text-of (c .before .before .before .before .before .before .before .before .before)) (c .before .before .behind-cnf .given .0 .0 .at) f
+variables-say c e = subst (FieldSays (text-of (c .before .before .before .before .before .before .before .before .before)) (c .before .before .behind-cnf .given .0 .0 .at)) e (c .next-field .ensures)
+
+clauses-say : (c : tie.After-next-field2) {f : Field} → c .next-field2 .result ≡ f
+    → FieldSays (text-of (c .before .before .before .before .before .before .before .before .before .before .before .before .before)) (c .before .before .variables .given .0 .1 .0 .at) f
+clauses-say c e =
+    subst (FieldSays (text-of (c .before .before .before .before .before .before .before .before .before .before .before .before .before)) (c .before .before .variables .given .0 .1 .0 .at)) e (c .next-field2 .ensures)
+
+end-says : (c : tie.After-next-in-line) {word : LineWord} → c .next-in-line .result ≡ word
+    → SteppedInLine (text-of (c .before .before .before .before .before .before .before .before .before .before .before .before .before .before .before .before .before)) (c .before .before .clauses .given .0 .1 .0 .at) word
+end-says c e =
+    subst (SteppedInLine (text-of (c .before .before .before .before .before .before .before .before .before .before .before .before .before .before .before .before .before)) (c .before .before .clauses .given .0 .1 .0 .at)) e (c .next-in-line .ensures)
 
 -- the words passed so far
-p-passes : (c : tie.After-behind-p) → WordPasses isP (c .before .before .before .before .before .before .before .before .args .text .now) (c .before .before .before .before .before .before .before .before .args .at) (c .behind-p .given .0 .0 .at)
-p-passes c = subst (KeywordSays (c .before .before .before .before .before .before .before .before .args .text .now) (c .before .before .before .before .before .before .before .before .args .at) (112 ∷ [])) (c .behind-p .given .1) (c .before .before .next-keyword .ensures)
+p-passes : (c : tie.After-behind-p)
+    → WordPasses isP (text-of (c .before .before)) (start-of (c .before .before)) (c .behind-p .given .0 .0 .at)
+p-passes c = p-says (c .before .before) (c .behind-p .given .1)
 
-cnf-passes : (c : tie.After-behind-cnf) → WordPasses isCnf (c .before .before .before .before .before .before .before .before .before .before .before .before .before .args .text .now) (c .before .before .before .before .before .behind-p .given .0 .0 .at) (c .behind-cnf .given .0 .0 .at)
-cnf-passes c = subst (KeywordSays (c .before .before .before .before .before .before .before .before .before .before .before .before .before .args .text .now) (c .before .before .before .before .before .behind-p .given .0 .0 .at) (99 ∷ 110 ∷ 102 ∷ [])) (c .behind-cnf .given .1) (c .before .before .next-keyword2 .ensures)
+cnf-passes : (c : tie.After-behind-cnf)
+    → WordPasses isCnf (text-of (c .before .before .before .before .before .before .before)) (c .before .before .before .before .before .behind-p .given .0 .0 .at) (c .behind-cnf .given .0 .0 .at)
+cnf-passes c = cnf-says (c .before .before) (c .behind-cnf .given .1)
 
-variables-pass : (c : tie.After-variables) → (p : WordPasses unsigned (c .before .before .before .before .before .before .before .before .before .before .before .before .before .before .before .before .before .args .text .now) (c .before .before .before .before .behind-cnf .given .0 .0 .at) (c .variables .given .0 .1 .0 .at)) × (decimal 0 (p .word) ≡ c .variables .given .0 .0)
-variables-pass c = subst (FieldSays (c .before .before .before .before .before .before .before .before .before .before .before .before .before .before .before .before .before .args .text .now) (c .before .before .before .before .behind-cnf .given .0 .0 .at)) (c .variables .given .1) (c .before .before .next-field .ensures)
+variables-pass : (c : tie.After-variables)
+    → (p : WordPasses unsigned (text-of (c .before .before .before .before .before .before .before .before .before .before .before)) (c .before .before .before .before .behind-cnf .given .0 .0 .at) (c .variables .given .0 .1 .0 .at))
+    × (decimal 0 (p .word) ≡ c .variables .given .0 .0)
+variables-pass c = variables-say (c .before .before) (c .variables .given .1)
 
-clauses-pass : (c : tie.After-clauses) → (p : WordPasses unsigned (c .before .before .before .before .before .before .before .before .before .before .before .before .before .before .before .before .before .before .before .before .before .args .text .now) (c .before .before .before .before .variables .given .0 .1 .0 .at) (c .clauses .given .0 .1 .0 .at)) × (decimal 0 (p .word) ≡ c .clauses .given .0 .0)
-clauses-pass c = subst (FieldSays (c .before .before .before .before .before .before .before .before .before .before .before .before .before .before .before .before .before .before .before .before .before .args .text .now) (c .before .before .before .before .variables .given .0 .1 .0 .at)) (c .clauses .given .1) (c .before .before .next-field2 .ensures)
+clauses-pass : (c : tie.After-clauses)
+    → (p : WordPasses unsigned (text-of (c .before .before .before .before .before .before .before .before .before .before .before .before .before .before .before)) (c .before .before .before .before .variables .given .0 .1 .0 .at) (c .clauses .given .0 .1 .0 .at))
+    × (decimal 0 (p .word) ≡ c .clauses .given .0 .0)
+clauses-pass c = clauses-say (c .before .before) (c .clauses .given .1)
 
 returns : tie.Need-returns
-returns c = malformed-first (c .before .before .args .text .now) (c .before .before .args .at) (c .before .before .pre .1) (begins-end 112 (c .before .before .args .text .now) (c .before .before .args .at) (c .if1 .taken))
+returns c = malformed-first _ _ (c .before .before .pre .1) (begins-end 112 (c .before .before .args .text .now) (c .before .before .args .at) (c .if1 .taken))
 
 shared-slice-read-if2 : tie.Need-shared-slice-read-if2
 shared-slice-read-if2 c = search needs
 
 returns-2 : tie.Need-returns-2
-returns-2 c = malformed-first (c .before .before .before .before .args .text .now) (c .before .before .before .before .args .at) (c .before .before .before .before .pre .1) (begins-at 112 (c .before .before .before .before .args .text .now) (c .before .before .before .before .args .at) (omega arith) ∙ ne-eqb _ _ (c .if2 .taken))
+returns-2 c = malformed-first _ _ (c .before .before .before .before .pre .1) (begins-at 112 (c .before .before .before .before .args .text .now) (c .before .before .before .before .args .at) (omega arith) ∙ ne-eqb _ _ (c .if2 .taken))
 
 slice-aggregate-next-keyword : tie.Need-slice-aggregate-next-keyword
 slice-aggregate-next-keyword c = search needs
@@ -52,7 +87,7 @@ enum-told : tie.Need-enum-told
 enum-told c = search needs
 
 returns-3 : tie.Need-returns-3
-returns-3 c = malformed-words (c .before .before .before .before .before .before .before .before .args .text .now) (c .before .before .before .before .before .before .before .before .args .at) (c .before .before .before .before .before .before .before .before .pre .1) (first-fails (c .before .before .before .before .before .before .before .before .args .text .now) (c .before .before .before .before .before .before .before .before .args .at) (subst (KeywordSays (c .before .before .before .before .before .before .before .before .args .text .now) (c .before .before .before .before .before .before .before .before .args .at) (112 ∷ [])) (c .enum-told .given .1) (c .before .before .next-keyword .ensures)))
+returns-3 c = malformed-words _ _ (c .before .before .before .before .before .before .before .before .pre .1) (first-fails (p-says (c .before .before) (c .enum-told .given .1)))
 
 slice-aggregate-next-keyword-2 : tie.Need-slice-aggregate-next-keyword-2
 slice-aggregate-next-keyword-2 c = search needs
@@ -67,7 +102,9 @@ enum-told-2 : tie.Need-enum-told-2
 enum-told-2 c = search needs
 
 returns-4 : tie.Need-returns-4
-returns-4 c = malformed-words (c .before .before .before .before .before .before .before .before .before .before .before .before .before .args .text .now) (c .before .before .before .before .before .before .before .before .before .before .before .before .before .args .at) (c .before .before .before .before .before .before .before .before .before .before .before .before .before .pre .1) (second-fails (c .before .before .before .before .before .before .before .before .before .before .before .before .before .args .text .now) (c .before .before .before .before .before .before .before .before .before .before .before .before .before .args .at) _ (p-passes (c .before .before .before .before .before)) (subst (KeywordSays (c .before .before .before .before .before .before .before .before .before .before .before .before .before .args .text .now) (c .before .before .before .before .before .behind-p .given .0 .0 .at) (99 ∷ 110 ∷ 102 ∷ [])) (c .enum-told2 .given .1) (c .before .before .next-keyword2 .ensures)))
+returns-4 c =
+    malformed-words _ _ (c .before .before .before .before .before .before .before .before .before .before .before .before .before .pre .1)
+    (second-fails (p-passes (c .before .before .before .before .before)) (cnf-says (c .before .before) (c .enum-told2 .given .1)))
 
 next-field-requires : tie.Need-next-field-requires
 next-field-requires c κs = cnf-passes (c .before) .within
@@ -79,7 +116,9 @@ enum-told-3 : tie.Need-enum-told-3
 enum-told-3 c = search needs
 
 returns-5 : tie.Need-returns-5
-returns-5 c = malformed-words (c .before .before .before .before .before .before .before .before .before .before .before .before .before .before .before .before .before .args .text .now) (c .before .before .before .before .before .before .before .before .before .before .before .before .before .before .before .before .before .args .at) (c .before .before .before .before .before .before .before .before .before .before .before .before .before .before .before .before .before .pre .1) (third-fails (c .before .before .before .before .before .before .before .before .before .before .before .before .before .before .before .before .before .args .text .now) (c .before .before .before .before .before .before .before .before .before .before .before .before .before .before .before .before .before .args .at) _ (p-passes (c .before .before .before .before .before .before .before .before .before)) _ (cnf-passes (c .before .before .before .before)) (subst (FieldSays (c .before .before .before .before .before .before .before .before .before .before .before .before .before .before .before .before .before .args .text .now) (c .before .before .before .before .behind-cnf .given .0 .0 .at)) (c .enum-told3 .given .1) (c .before .before .next-field .ensures)))
+returns-5 c =
+    malformed-words _ _ (c .before .before .before .before .before .before .before .before .before .before .before .before .before .before .before .before .before .pre .1)
+    (third-fails (p-passes (c .before .before .before .before .before .before .before .before .before)) (cnf-passes (c .before .before .before .before)) (variables-say (c .before .before) (c .enum-told3 .given .1)))
 
 next-field-requires-2 : tie.Need-next-field-requires-2
 next-field-requires-2 c κs = variables-pass (c .before) .0 .within
@@ -91,7 +130,9 @@ enum-told-4 : tie.Need-enum-told-4
 enum-told-4 c = search needs
 
 returns-6 : tie.Need-returns-6
-returns-6 c = malformed-words (c .before .before .before .before .before .before .before .before .before .before .before .before .before .before .before .before .before .before .before .before .before .args .text .now) (c .before .before .before .before .before .before .before .before .before .before .before .before .before .before .before .before .before .before .before .before .before .args .at) (c .before .before .before .before .before .before .before .before .before .before .before .before .before .before .before .before .before .before .before .before .before .pre .1) (fourth-fails (c .before .before .before .before .before .before .before .before .before .before .before .before .before .before .before .before .before .before .before .before .before .args .text .now) (c .before .before .before .before .before .before .before .before .before .before .before .before .before .before .before .before .before .before .before .before .before .args .at) _ (p-passes (c .before .before .before .before .before .before .before .before .before .before .before .before .before)) _ (cnf-passes (c .before .before .before .before .before .before .before .before)) _ (variables-pass (c .before .before .before .before) .0) (subst (FieldSays (c .before .before .before .before .before .before .before .before .before .before .before .before .before .before .before .before .before .before .before .before .before .args .text .now) (c .before .before .before .before .variables .given .0 .1 .0 .at)) (c .enum-told4 .given .1) (c .before .before .next-field2 .ensures)))
+returns-6 c =
+    malformed-words _ _ (c .before .before .before .before .before .before .before .before .before .before .before .before .before .before .before .before .before .before .before .before .before .pre .1)
+    (fourth-fails (p-passes (c .before .before .before .before .before .before .before .before .before .before .before .before .before)) (cnf-passes (c .before .before .before .before .before .before .before .before)) (variables-pass (c .before .before .before .before) .0) (clauses-say (c .before .before) (c .enum-told4 .given .1)))
 
 next-in-line-requires : tie.Need-next-in-line-requires
 next-in-line-requires c κs = clauses-pass (c .before) .0 .within
@@ -103,14 +144,22 @@ enum-known-next : tie.Need-enum-known-next
 enum-known-next c = search needs
 
 returns-7 : tie.Need-returns-7
-returns-7 c = malformed-words (c .before .before .before .before .before .before .before .before .before .before .before .before .before .before .before .before .before .before .before .before .before .before .before .before .before .args .text .now) (c .before .before .before .before .before .before .before .before .before .before .before .before .before .before .before .before .before .before .before .before .before .before .before .before .before .args .at) (c .before .before .before .before .before .before .before .before .before .before .before .before .before .before .before .before .before .before .before .before .before .before .before .before .before .pre .1) (fifth-word (c .before .before .before .before .before .before .before .before .before .before .before .before .before .before .before .before .before .before .before .before .before .before .before .before .before .args .text .now) (c .before .before .before .before .before .before .before .before .before .before .before .before .before .before .before .before .before .before .before .before .before .before .before .before .before .args .at) _ (p-passes (c .before .before .before .before .before .before .before .before .before .before .before .before .before .before .before .before .before)) _ (cnf-passes (c .before .before .before .before .before .before .before .before .before .before .before .before)) _ (variables-pass (c .before .before .before .before .before .before .before .before) .0) _ (clauses-pass (c .before .before .before .before) .0) _ _ (subst (SteppedInLine (c .before .before .before .before .before .before .before .before .before .before .before .before .before .before .before .before .before .before .before .before .before .before .before .before .before .args .text .now) (c .before .before .before .before .clauses .given .0 .1 .0 .at)) (c .enum-told5 .given .1) (c .before .before .next-in-line .ensures)))
+returns-7 c =
+    malformed-words _ _ (c .before .before .before .before .before .before .before .before .before .before .before .before .before .before .before .before .before .before .before .before .before .before .before .before .before .pre .1)
+    (fifth-word (p-passes (c .before .before .before .before .before .before .before .before .before .before .before .before .before .before .before .before .before)) (cnf-passes (c .before .before .before .before .before .before .before .before .before .before .before .before)) (variables-pass (c .before .before .before .before .before .before .before .before) .0) (clauses-pass (c .before .before .before .before) .0) (end-says (c .before .before) (c .enum-told5 .given .1)))
 
 returns-8 : tie.Need-returns-8
 returns-8 c =
-    let ends = subst (SteppedInLine (c .before .before .before .before .before .before .before .before .before .before .before .before .before .before .before .before .before .before .before .before .before .before .before .before .before .before .args .text .now) (c .before .before .before .before .before .clauses .given .0 .1 .0 .at)) (c .before .next .given .1) (c .before .before .before .next-in-line .ensures) in
-    let says = well-headed (c .before .before .before .before .before .before .before .before .before .before .before .before .before .before .before .before .before .before .before .before .before .before .before .before .before .before .args .text .now) (c .before .before .before .before .before .before .before .before .before .before .before .before .before .before .before .before .before .before .before .before .before .before .before .before .before .before .args .at) _ (p-passes (c .before .before .before .before .before .before .before .before .before .before .before .before .before .before .before .before .before .before)) _ (cnf-passes (c .before .before .before .before .before .before .before .before .before .before .before .before .before)) _ (variables-pass (c .before .before .before .before .before .before .before .before .before) .0) _ (clauses-pass (c .before .before .before .before .before) .0) _ ends ∙ ap₂ header (variables-pass (c .before .before .before .before .before .before .before .before .before) .1) (clauses-pass (c .before .before .before .before .before) .1) in (
+    let p = p-passes (c .before .before .before .before .before .before .before .before .before .before .before .before .before .before .before .before .before .before) in
+    let cnf = cnf-passes (c .before .before .before .before .before .before .before .before .before .before .before .before .before) in
+    let variables = variables-pass (c .before .before .before .before .before .before .before .before .before) in
+    let clauses = clauses-pass (c .before .before .before .before .before) in
+    let ends = end-says (c .before .before .before) (c .before .next .given .1) in (
       ends .within,
-      well-formed-header (c .before .before .before .before .before .before .before .before .before .before .before .before .before .before .before .before .before .before .before .before .before .before .before .before .before .before .args .text .now) (c .before .before .before .before .before .before .before .before .before .before .before .before .before .before .before .before .before .before .before .before .before .before .before .before .before .before .args .at) (c .before .before .before .before .before .before .before .before .before .before .before .before .before .before .before .before .before .before .before .before .before .before .before .before .before .before .pre .1) _ _ _ (begins-at 112 (c .before .before .before .before .before .before .before .before .before .before .before .before .before .before .before .before .before .before .before .before .before .before .before .before .before .before .args .text .now) (c .before .before .before .before .before .before .before .before .before .before .before .before .before .before .before .before .before .before .before .before .before .before .before .before .before .before .args .at) (omega (arith, c .before .before .before .before .before .before .before .before .before .before .before .before .before .before .before .before .before .before .before .before .before .before .before .before .if1 .left)) ∙ eq-eqb _ _ (c .before .before .before .before .before .before .before .before .before .before .before .before .before .before .before .before .before .before .before .before .before .before .if2 .left)) says (tokens-behind (c .before .before .before .before .before .before .before .before .before .before .before .before .before .before .before .before .before .before .before .before .before .before .before .before .before .before .args .text .now) (c .before .before .before .before .before .before .before .before .before .before .before .before .before .before .before .before .before .before .before .before .before .before .before .before .before .before .args .at) _ (p-passes (c .before .before .before .before .before .before .before .before .before .before .before .before .before .before .before .before .before .before)) _ (cnf-passes (c .before .before .before .before .before .before .before .before .before .before .before .before .before)) _ (variables-pass (c .before .before .before .before .before .before .before .before .before) .0) _ (clauses-pass (c .before .before .before .before .before) .0) _ ends),
+      well-formed-header _ _ (c .before .before .before .before .before .before .before .before .before .before .before .before .before .before .before .before .before .before .before .before .before .before .before .before .before .before .pre .1) _ _ _
+          (begins-at 112 (c .before .before .before .before .before .before .before .before .before .before .before .before .before .before .before .before .before .before .before .before .before .before .before .before .before .before .args .text .now) (c .before .before .before .before .before .before .before .before .before .before .before .before .before .before .before .before .before .before .before .before .before .before .before .before .before .before .args .at) (omega (arith, c .before .before .before .before .before .before .before .before .before .before .before .before .before .before .before .before .before .before .before .before .before .before .before .before .if1 .left)) ∙ eq-eqb _ _ (c .before .before .before .before .before .before .before .before .before .before .before .before .before .before .before .before .before .before .before .before .before .before .if2 .left))
+          (well-headed p cnf (variables .0) (clauses .0) ends ∙ ap₂ header (variables .1) (clauses .1))
+          (tokens-behind p cnf (variables .0) (clauses .0) ends),
     )
 
 pub header-at-spec : {M : Type 1} → statement M

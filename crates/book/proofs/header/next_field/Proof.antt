@@ -1,17 +1,19 @@
 -- `next_field` meets its contract. Assumes nothing.
-use mathlib.Core.Path.{sym, _∙_, subst}
+use mathlib.Core.Path.{_≡_, sym, _∙_, subst}
 use native.Mathlib.Omega.{arith}
 use Rattle.book.specs.Text.{unsigned}
 use Rattle.book.specs.Inner.Steps.{SteppedInLine}
+use Rattle.book.specs.declared.cursor.LineWord.{LineWord}
 use Rattle.book.proofs.DecimalLaws.{word-unsigned, word-not-unsigned}
 use Rattle.book.proofs.HeaderLaws.{field-passes, word-fails, line-fails}
 use borrow.Author.Needs.{needs}
 use Rattle.book.proofs.header.next_field.Statement.{statement}
 use Rattle.book.proofs.header.next_field.Tie as tie
-use Rattle.book.proofs.header.next_field.Reads as reads
-use Rattle.book.proofs.header.next_field.Lts as lts
-use Rattle.book.proofs.bytes.number.Reads as number-reads
-use Rattle.book.proofs.cursor.Cursor.next_in_line.Reads as next-in-line-reads
+
+-- what the step of the cursor says, by its answer
+stepped : (c : tie.After-next-in-line) {word : LineWord} → c .next-in-line .result ≡ word
+    → SteppedInLine (c .before .before .args .text .now) (c .before .before .args .cursor .at) word
+stepped c e = subst (SteppedInLine (c .before .before .args .text .now) (c .before .before .args .cursor .at)) e (c .next-in-line .ensures)
 
 next-in-line-requires : tie.Need-next-in-line-requires
 next-in-line-requires c κs = search needs
@@ -23,13 +25,13 @@ enum-known-from : tie.Need-enum-known-from
 enum-known-from c = search needs
 
 sub-number : tie.Need-sub-number
-sub-number c = omega (arith, (subst (SteppedInLine (c .before .before .before .before .before .args .text .now) (c .before .before .before .before .before .args .cursor .at)) (c .before .from .given .1) (c .before .before .before .next-in-line .ensures)) .ahead)
+sub-number c = omega (arith, stepped (c .before .before .before) (c .before .from .given .1) .ahead)
 
 part-number-start : tie.Need-part-number-start
-part-number-start c = (subst (SteppedInLine (c .before .before .before .before .before .args .text .now) (c .before .before .before .before .before .args .cursor .at)) (c .before .from .given .1) (c .before .before .before .next-in-line .ensures)) .ahead
+part-number-start c = stepped (c .before .before .before) (c .before .from .given .1) .ahead
 
 part-number-end : tie.Need-part-number-end
-part-number-end c = (subst (SteppedInLine (c .before .before .before .before .before .args .text .now) (c .before .before .before .before .before .args .cursor .at)) (c .before .from .given .1) (c .before .before .before .next-in-line .ensures)) .within
+part-number-end c = stepped (c .before .before .before) (c .before .from .given .1) .within
 
 number-requires : tie.Need-number-requires
 number-requires c κs = search needs
@@ -41,14 +43,14 @@ enum-told-2 : tie.Need-enum-told-2
 enum-told-2 c = search needs
 
 returns : tie.Need-returns
-returns c = line-fails unsigned (c .before .before .before .before .args .text .now) (c .before .before .before .before .args .cursor .at) _ (subst (SteppedInLine (c .before .before .before .before .args .text .now) (c .before .before .before .before .args .cursor .at)) (c .enum-told .given .1) (c .before .before .next-in-line .ensures))
+returns c = line-fails unsigned _ _ _ (stepped (c .before .before) (c .enum-told .given .1))
 
 returns-2 : tie.Need-returns-2
 returns-2 c =
-    field-passes (c .before .before .before .before .before .before .before .before .before .before .args .text .now) (c .before .before .before .before .before .before .before .before .before .before .args .cursor .at) _ _ _ (subst (SteppedInLine (c .before .before .before .before .before .before .before .before .before .before .args .text .now) (c .before .before .before .before .before .before .before .before .before .before .args .cursor .at)) (c .before .before .before .before .before .before .from .given .1) (c .before .before .before .before .before .before .before .before .next-in-line .ensures)) (word-unsigned _ _ (sym (c .before .value .given .1) ∙ c .before .before .before .number .ensures))
+    field-passes _ _ _ _ _ (stepped (c .before .before .before .before .before .before .before .before) (c .before .before .before .before .before .before .from .given .1)) (word-unsigned _ _ (sym (c .before .value .given .1) ∙ c .before .before .before .number .ensures))
 
 returns-3 : tie.Need-returns-3
-returns-3 c = word-fails unsigned (c .before .before .before .before .before .before .before .before .before .args .text .now) (c .before .before .before .before .before .before .before .before .before .args .cursor .at) _ _ (subst (SteppedInLine (c .before .before .before .before .before .before .before .before .before .args .text .now) (c .before .before .before .before .before .before .before .before .before .args .cursor .at)) (c .before .before .before .before .before .from .given .1) (c .before .before .before .before .before .before .before .next-in-line .ensures)) (word-not-unsigned _ (sym (c .enum-told2 .given .1) ∙ c .before .before .number .ensures))
+returns-3 c = word-fails unsigned _ _ _ _ (stepped (c .before .before .before .before .before .before .before) (c .before .before .before .before .before .from .given .1)) (word-not-unsigned _ (sym (c .enum-told2 .given .1) ∙ c .before .before .number .ensures))
 
 pub next-field-spec : {M : Type 1} → statement M
 next-field-spec =

@@ -1,18 +1,20 @@
 -- `next_keyword` meets its contract. Assumes nothing.
 use Prim.Native.Nat.{ℕ}
 use mathlib.Core.List.{List}
-use mathlib.Core.Path.{sym, _∙_, subst}
+use mathlib.Core.Path.{_≡_, sym, _∙_, subst}
 use native.Mathlib.Omega.{arith}
 use Rattle.base.specs.Lists.{same}
 use Rattle.book.specs.Inner.Steps.{SteppedInLine}
+use Rattle.book.specs.declared.cursor.LineWord.{LineWord}
 use Rattle.book.proofs.HeaderLaws.{word-passes, word-fails, line-fails}
 use borrow.Author.Needs.{needs}
 use Rattle.book.proofs.header.next_keyword.Statement.{statement}
 use Rattle.book.proofs.header.next_keyword.Tie as tie
-use Rattle.book.proofs.header.next_keyword.Reads as reads
-use Rattle.book.proofs.header.next_keyword.Lts as lts
-use Rattle.book.proofs.cursor.Cursor.next_in_line.Reads as next-in-line-reads
-use Rattle.book.proofs.header.equal.Reads as equal-reads
+
+-- what the step of the cursor says, by its answer
+stepped : (c : tie.After-next-in-line) {word : LineWord} → c .next-in-line .result ≡ word
+    → SteppedInLine (c .before .before .before .args .text .now) (c .before .before .before .args .cursor .at) word
+stepped c e = subst (SteppedInLine (c .before .before .before .args .text .now) (c .before .before .before .args .cursor .at)) e (c .next-in-line .ensures)
 
 next-in-line-requires : tie.Need-next-in-line-requires
 next-in-line-requires c κs = search needs
@@ -24,25 +26,25 @@ enum-known-from : tie.Need-enum-known-from
 enum-known-from c = search needs
 
 sub-equal : tie.Need-sub-equal
-sub-equal c = omega (arith, (subst (SteppedInLine (c .before .before .before .before .before .before .args .text .now) (c .before .before .before .before .before .before .args .cursor .at)) (c .before .from .given .1) (c .before .before .before .next-in-line .ensures)) .ahead)
+sub-equal c = omega (arith, stepped (c .before .before .before) (c .before .from .given .1) .ahead)
 
 part-equal-start : tie.Need-part-equal-start
-part-equal-start c = (subst (SteppedInLine (c .before .before .before .before .before .before .args .text .now) (c .before .before .before .before .before .before .args .cursor .at)) (c .before .from .given .1) (c .before .before .before .next-in-line .ensures)) .ahead
+part-equal-start c = stepped (c .before .before .before) (c .before .from .given .1) .ahead
 
 part-equal-end : tie.Need-part-equal-end
-part-equal-end c = (subst (SteppedInLine (c .before .before .before .before .before .before .args .text .now) (c .before .before .before .before .before .before .args .cursor .at)) (c .before .from .given .1) (c .before .before .before .next-in-line .ensures)) .within
+part-equal-end c = stepped (c .before .before .before) (c .before .from .given .1) .within
 
 equal-requires : tie.Need-equal-requires
 equal-requires c κs = search needs
 
 returns : tie.Need-returns
-returns c = line-fails (λ (w : List ℕ). same w (c .before .before .before .before .before .args .word .now)) (c .before .before .before .before .before .args .text .now) (c .before .before .before .before .before .args .cursor .at) _ (subst (SteppedInLine (c .before .before .before .before .before .args .text .now) (c .before .before .before .before .before .args .cursor .at)) (c .enum-told .given .1) (c .before .before .next-in-line .ensures))
+returns c = line-fails (λ (w : List ℕ). same w (c .before .before .before .before .before .args .word .now)) _ _ _ (stepped (c .before .before) (c .enum-told .given .1))
 
 returns-2 : tie.Need-returns-2
-returns-2 c = word-passes (λ (w : List ℕ). same w (c .before .before .before .before .before .before .before .before .before .args .word .now)) (c .before .before .before .before .before .before .before .before .before .args .text .now) (c .before .before .before .before .before .before .before .before .before .args .cursor .at) _ _ (subst (SteppedInLine (c .before .before .before .before .before .before .before .before .before .args .text .now) (c .before .before .before .before .before .before .before .before .before .args .cursor .at)) (c .before .before .before .before .from .given .1) (c .before .before .before .before .before .before .next-in-line .ensures)) (sym (c .before .equal .ensures) ∙ c .if1 .taken)
+returns-2 c = word-passes (λ (w : List ℕ). same w (c .before .before .before .before .before .before .before .before .before .args .word .now)) _ _ _ _ (stepped (c .before .before .before .before .before .before) (c .before .before .before .before .from .given .1)) (sym (c .before .equal .ensures) ∙ c .if1 .taken)
 
 returns-3 : tie.Need-returns-3
-returns-3 c = word-fails (λ (w : List ℕ). same w (c .before .before .before .before .before .before .before .before .before .args .word .now)) (c .before .before .before .before .before .before .before .before .before .args .text .now) (c .before .before .before .before .before .before .before .before .before .args .cursor .at) _ _ (subst (SteppedInLine (c .before .before .before .before .before .before .before .before .before .args .text .now) (c .before .before .before .before .before .before .before .before .before .args .cursor .at)) (c .before .before .before .before .from .given .1) (c .before .before .before .before .before .before .next-in-line .ensures)) (sym (c .before .equal .ensures) ∙ c .if1 .left)
+returns-3 c = word-fails (λ (w : List ℕ). same w (c .before .before .before .before .before .before .before .before .before .args .word .now)) _ _ _ _ (stepped (c .before .before .before .before .before .before) (c .before .before .before .before .from .given .1)) (sym (c .before .equal .ensures) ∙ c .if1 .left)
 
 pub next-keyword-spec : {M : Type 1} → statement M
 next-keyword-spec =

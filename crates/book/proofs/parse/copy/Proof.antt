@@ -1,16 +1,13 @@
 -- `copy` meets its contract: the first i numbers are copied. Assumes nothing.
-use Prim.Native.Nat.{_-_, _≤_}
+use Prim.Native.Nat.{_-_, _≤_, ℕ}
 use mathlib.Core.Path.{_≡_, ap, _∙_}
 use mathlib.Core.List.{_++_}
-use Prim.Native.Nat.{ℕ}
 use native.Mathlib.Omega.{arith}
 use borrow.Author.Needs.{needs}
 use lib.ListN.{take, drop}
 use Rattle.base.proofs.Copies.{Copied, copied-none, copied-more, length-copied}
 use Rattle.book.proofs.parse.copy.Statement.{statement}
 use Rattle.book.proofs.parse.copy.Tie as tie
-use Rattle.book.proofs.parse.copy.Reads as reads
-use Rattle.book.proofs.parse.copy.Lts as lts
 
 abbrev Inv-loop : tie.InvT-loop
 Inv-loop numbers n out₀ i₀ out i = Copied numbers out₀ out i × (i ≤ n)
@@ -22,13 +19,13 @@ loop-holds : tie.Need-loop-holds Inv-loop μ-loop
 loop-holds c = (copied-none (c .args .numbers .now) (c .args .out .now), omega arith)
 
 mul-out : tie.Need-mul-out Inv-loop μ-loop
-mul-out c = omega (arith, c .before .before .pre .0, c .before .before .good)
+mul-out c = omega arith
 
 shared-slice-read-out : tie.Need-shared-slice-read-out Inv-loop μ-loop
 shared-slice-read-out c = search needs
 
 mul-out-2 : tie.Need-mul-out-2 Inv-loop μ-loop
-mul-out-2 c = omega (arith, c .before .before .before .pre .0, c .before .before .before .good)
+mul-out-2 c = omega arith
 
 slice-write-out : tie.Need-slice-write-out Inv-loop μ-loop
 slice-write-out c = omega (arith, length-copied (c .before .before .before .args .numbers .now) (c .before .before .before .args .out .now) _ _ (c .before .before .loop .inv .0))

@@ -9,16 +9,11 @@ use Rattle.book.specs.Inner.Walk.{walk, walkUnder, walkLines}
 use Rattle.book.specs.Inner.Steps.{tokensHere}
 use Rattle.book.specs.Inner.Heads.{HeaderSays}
 use Rattle.book.specs.Inner.Bodies.{BodySays}
+use Rattle.book.specs.declared.body.Body.{Body}
 use Rattle.book.proofs.ParseLaws.{text-start, outside-none, outside-variables, outside-clauses, within-limits, header-refused, header-taken, written-front}
 use borrow.Author.Needs.{needs}
 use Rattle.book.proofs.parse.parse.Statement.{statement}
 use Rattle.book.proofs.parse.parse.Tie as tie
-use Rattle.book.proofs.parse.parse.Reads as reads
-use Rattle.book.proofs.parse.parse.Lts as lts
-use Rattle.book.proofs.body.clauses_at.Reads as clauses-at-reads
-use Rattle.book.proofs.form.wide.Reads as wide-reads
-use Rattle.book.proofs.cursor.line_start.Reads as line-start-reads
-use Rattle.book.proofs.header.header_at.Reads as header-at-reads
 
 -- the answer to the text, from its header on
 headed : (c : tie.After-variables) → (c .variables .given .0 .1 .1 .0 .at ≤ length (c .before .before .before .before .before .args .text .now))
@@ -34,6 +29,17 @@ limited c =
     rw (c .before .wide .ensures .0, c .wide2 .ensures .0)
     (headed (c .before .before .before .before .before .before) .1
     ∙ header-taken _ _ _ (within-limits _ _ (c .before .before .before .before .if1 .left) (c .before .before .before .if2 .left) (c .before .before .if3 .left)))
+
+-- what the clauses say, by the answer
+abbrev body-says : (c : tie.After-clauses-at) {body : Body} → c .clauses-at .result ≡ body
+    → BodySays (c .before .before .before .before .before .before .before .before .before .before .before .before .before .args .text .now) (c .before .before .before .before .before .before .before .before .variables .given .0 .1 .1 .0 .at) (c .before .before .before .wide .result) (c .before .before .wide2 .result)
+    (c .clauses-at .last .1 .1 .1 .1 .0) body
+body-says c e =
+    subst
+    (BodySays (c .before .before .before .before .before .before .before .before .before .before .before .before .before .args .text .now) (c .before .before .before .before .before .before .before .before .variables .given .0 .1 .1 .0 .at) (c .before .before .before .wide .result) (c .before .before .wide2 .result)
+    (c .clauses-at .last .1 .1 .1 .1 .0))
+    e
+    (c .clauses-at .ensures)
 
 line-start-requires : tie.Need-line-start-requires
 line-start-requires c κs = search needs
@@ -66,7 +72,7 @@ wide-requires-2 : tie.Need-wide-requires-2
 wide-requires-2 c κs = search needs
 
 clauses-at-requires : tie.Need-clauses-at-requires
-clauses-at-requires c κs = (headed (c .before .before .before .before .before .before .before) .0, omega (arith, c .before .before .wide .ensures .0, c .before .before .before .before .if2 .left), omega (arith, c .before .wide2 .ensures .0, c .before .before .before .if3 .left), c .before .before .before .before .before .before .before .before .before .before .before .before .pre)
+clauses-at-requires c κs = (headed (c .before .before .before .before .before .before .before) .0, omega arith, omega arith, c .before .before .before .before .before .before .before .before .before .before .before .before .pre)
 
 enum-known-number : tie.Need-enum-known-number
 enum-known-number c = search needs
@@ -84,11 +90,11 @@ element-write-numbers-3 : tie.Need-element-write-numbers-3
 element-write-numbers-3 c = search needs
 
 returns-5 : tie.Need-returns-5
-returns-5 c = limited (c .before .before .before .before .before) ∙ (subst (BodySays (c .before .before .before .before .before .before .before .before .before .before .before .before .before .before .before .before .args .text .now) (c .before .before .before .before .before .before .before .before .before .before .before .variables .given .0 .1 .1 .0 .at) (c .before .before .before .before .before .before .wide .result) (c .before .before .before .before .before .wide2 .result) (c .before .before .before .clauses-at .last .1 .1 .1 .1 .0)) (c .before .number .given .1) (c .before .before .before .clauses-at .ensures))
+returns-5 c = limited (c .before .before .before .before .before) ∙ body-says (c .before .before .before) (c .before .number .given .1)
 
 returns-6 : tie.Need-returns-6
 returns-6 c =
-    let read = (subst (BodySays (c .before .before .before .before .before .before .before .before .before .before .before .before .before .before .before .before .args .text .now) (c .before .before .before .before .before .before .before .before .before .before .before .variables .given .0 .1 .1 .0 .at) (c .before .before .before .before .before .before .wide .result) (c .before .before .before .before .before .wide2 .result) (c .before .before .before .clauses-at .last .1 .1 .1 .1 .0)) (c .before .literals .given .1) (c .before .before .before .clauses-at .ensures)) in
+    let read = body-says (c .before .before .before) (c .before .literals .given .1) in
     record {
       formula = record { variables = c .before .before .before .before .before .before .wide .result; clauses = read .0 };
       is-accepted = limited (c .before .before .before .before .before) ∙ read .1;

@@ -1,4 +1,4 @@
--- `decide_many` meets its contract: each turn is one decision less, and the session keeps its length. Assumes nothing.
+-- `decide_many` is safe and ends: each turn makes one decision, and the lent numbers keep their length. Assumes nothing.
 use Prim.Native.Nat.{_≤_}
 use mathlib.Core.Path.{_≡_}
 use borrow.Author.Needs.{needs}

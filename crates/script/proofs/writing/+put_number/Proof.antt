@@ -2,11 +2,11 @@
 use native.Mathlib.Omega.{arith}
 use borrow.Author.Needs.{needs}
 use Rattle.script.proofs.WritingLaws.{appends-both, appends-as}
-use Rattle.script.proofs.DigitLaws.{number-one, number-more}
+use Rattle.script.proofs.DigitLaws.{numeral-one, numeral-more}
 use Prim.Native.Nat.{ℕ, _/_, _<_}
 use mathlib.Core.Path.{sym, ap, _∙_}
 use mathlib.Core.List.{[], _∷_, _++_}
-use Rattle.script.specs.Answers.{number}
+use Rattle.script.specs.Answers.{numeral}
 use borrow.Fn.Kinds.{In}
 use borrow.Fn.PlainCycle.{Measures, is, falls, and}
 use Rattle.script.proofs.writing.put_number.Reads as put-number
@@ -28,7 +28,6 @@ abbrev put-number-below : ℕ → In 1 put-number-kinds.ps
 put-number-below t =
     and 1 put-number-kinds.ps (falls 1 put-number-kinds.ps _<_ μ-put-number t) put-number.Pre
 
--- src/writing.rt:48:20
 put-number-digit-requires : (t : ℕ) → put-number-lts.Need-digit-requires (
   digit-reads.Asked,
   digit-reads.Learnt,
@@ -39,7 +38,6 @@ put-number-digit-requires : (t : ℕ) → put-number-lts.Need-digit-requires (
 ) (put-number-at t) put-number.Post
 put-number-digit-requires t c κs = search needs
 
--- src/writing.rt:48:9
 put-number-put-requires : (t : ℕ) → put-number-lts.Need-put-requires (
   digit-reads.Asked,
   digit-reads.Learnt,
@@ -50,7 +48,6 @@ put-number-put-requires : (t : ℕ) → put-number-lts.Need-put-requires (
 ) (put-number-at t) put-number.Post
 put-number-put-requires t c κs = tt
 
--- src/writing.rt:48:9
 put-number-same-length : (t : ℕ) → put-number-lts.Need-same-length (
   digit-reads.Asked,
   digit-reads.Learnt,
@@ -61,7 +58,6 @@ put-number-same-length : (t : ℕ) → put-number-lts.Need-same-length (
 ) (put-number-at t) put-number.Post
 put-number-same-length t c = c .before .before .put .ensures .same-length
 
--- src/writing.rt:48:9
 put-number-returns : (t : ℕ) → put-number-lts.Need-returns (
   digit-reads.Asked,
   digit-reads.Learnt,
@@ -71,9 +67,8 @@ put-number-returns : (t : ℕ) → put-number-lts.Need-returns (
   put-number.Post,
 ) (put-number-at t) put-number.Post
 put-number-returns t c =
-    appends-as (ap (λ (d : ℕ). d ∷ []) (c .before .before .before .before .digit .ensures) ∙ sym (number-one (c .before .before .before .before .before .before .before .args .n) (c .before .before .before .before .before .if1 .taken))) (c .before .before .put .ensures)
+    appends-as (ap (λ (d : ℕ). d ∷ []) (c .before .before .before .before .digit .ensures) ∙ sym (numeral-one (c .before .before .before .before .before .before .before .args .n) (c .before .before .before .before .before .if1 .taken))) (c .before .before .put .ensures)
 
--- src/writing.rt:50:9
 put-number-put-number-requires : (t : ℕ) → put-number-lts.Need-put-number-requires (
   digit-reads.Asked,
   digit-reads.Learnt,
@@ -82,9 +77,8 @@ put-number-put-number-requires : (t : ℕ) → put-number-lts.Need-put-number-re
   put-number-below t,
   put-number.Post,
 ) (put-number-at t) put-number.Post
-put-number-put-number-requires t c κs = (omega (arith, c .before .before .before .pre .0), tt)
+put-number-put-number-requires t c κs = (omega arith, tt)
 
--- src/writing.rt:51:9
 put-number-digit-requires-2 : (t : ℕ) → put-number-lts.Need-digit-requires-2 (
   digit-reads.Asked,
   digit-reads.Learnt,
@@ -95,7 +89,6 @@ put-number-digit-requires-2 : (t : ℕ) → put-number-lts.Need-digit-requires-2
 ) (put-number-at t) put-number.Post
 put-number-digit-requires-2 t c κs = omega arith
 
--- src/writing.rt:51:5
 put-number-put-requires-2 : (t : ℕ) → put-number-lts.Need-put-requires-2 (
   digit-reads.Asked,
   digit-reads.Learnt,
@@ -106,7 +99,6 @@ put-number-put-requires-2 : (t : ℕ) → put-number-lts.Need-put-requires-2 (
 ) (put-number-at t) put-number.Post
 put-number-put-requires-2 t c κs = tt
 
--- src/writing.rt:44:1
 put-number-same-length-2 : (t : ℕ) → put-number-lts.Need-same-length-2 (
   digit-reads.Asked,
   digit-reads.Learnt,
@@ -117,7 +109,6 @@ put-number-same-length-2 : (t : ℕ) → put-number-lts.Need-same-length-2 (
 ) (put-number-at t) put-number.Post
 put-number-same-length-2 t c = c .before .before .put2 .ensures .same-length ∙ c .before .before .before .before .before .before .before .put-number .ensures .same-length
 
--- src/writing.rt:44:1
 put-number-returns-2 : (t : ℕ) → put-number-lts.Need-returns-2 (
   digit-reads.Asked,
   digit-reads.Learnt,
@@ -127,9 +118,10 @@ put-number-returns-2 : (t : ℕ) → put-number-lts.Need-returns-2 (
   put-number.Post,
 ) (put-number-at t) put-number.Post
 put-number-returns-2 t c =
+    let n = c .before .before .before .before .before .before .before .before .before .before .before .args .n in
     appends-as
-    (ap (λ (d : ℕ). number (c .before .before .before .before .before .before .before .before .before .before .before .args .n / 10) ++ (d ∷ [])) (c .before .before .before .before .digit2 .ensures)
-    ∙ sym (number-more (c .before .before .before .before .before .before .before .before .before .before .before .args .n) (omega arith) (omega arith)))
+    (ap (λ (d : ℕ). numeral (n / 10) ++ (d ∷ [])) (c .before .before .before .before .digit2 .ensures)
+    ∙ sym (numeral-more n (omega arith) (omega arith)))
     (appends-both (c .before .before .before .before .before .before .before .put-number .ensures) (c .before .before .put2 .ensures))
 
 pub +put-number-spec : {M : Type 1} → statement M

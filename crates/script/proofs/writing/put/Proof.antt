@@ -3,26 +3,19 @@ use Rattle.script.proofs.WritingLaws.{appends-full, appends-one}
 use borrow.Author.Needs.{needs}
 use Rattle.script.proofs.writing.put.Statement.{statement}
 use Rattle.script.proofs.writing.put.Tie as tie
-use Rattle.script.proofs.writing.put.Reads as reads
-use Rattle.script.proofs.writing.put.Lts as lts
 
--- src/writing.rt:19:9
 returns : tie.Need-returns
 returns c = appends-full (c .before .args .out .now) (c .before .args .at) (c .before .args .byte) (c .if1 .taken)
 
--- src/writing.rt:21:5
 slice-write-out : tie.Need-slice-write-out
 slice-write-out c = search needs
 
--- src/writing.rt:22:5
 add-result : tie.Need-add-result
 add-result c = search needs
 
--- src/writing.rt:15:1
 same-length : tie.Need-same-length
 same-length c = search needs
 
--- src/writing.rt:15:1
 returns-2 : tie.Need-returns-2
 returns-2 c = appends-one (c .before .args .out .now) (c .before .args .at) (c .before .args .byte) (search needs)
 

@@ -5,9 +5,6 @@ use lib.ListN.{length}
 use Rattle.script.proofs.WritingLaws.{Putting, putting-none, putting-more, putting-all}
 use Rattle.script.proofs.writing.put_all.Statement.{statement}
 use Rattle.script.proofs.writing.put_all.Tie as tie
-use Rattle.script.proofs.writing.put_all.Reads as reads
-use Rattle.script.proofs.writing.put_all.Lts as lts
-use Rattle.script.proofs.writing.put.Reads as put-reads
 
 abbrev Inv-loop : tie.InvT-loop
 Inv-loop bytes at out₀ end₀ i₀ out end i = Putting bytes out₀ at out end i
@@ -15,35 +12,27 @@ Inv-loop bytes at out₀ end₀ i₀ out end i = Putting bytes out₀ at out end
 abbrev μ-loop : tie.MeasureT-loop
 μ-loop bytes at out₀ end₀ i₀ out end i = length bytes - i
 
--- src/writing.rt:30:5
 loop-holds : tie.Need-loop-holds Inv-loop μ-loop
 loop-holds c = putting-none (c .before .before .args .bytes .now) (c .before .before .args .out .now) (c .before .before .args .at)
 
--- src/writing.rt:31:19
 shared-slice-read-put : tie.Need-shared-slice-read-put Inv-loop μ-loop
 shared-slice-read-put c = search needs
 
--- src/writing.rt:31:9
 put-requires : tie.Need-put-requires Inv-loop μ-loop
 put-requires c κs = search needs
 
--- src/writing.rt:32:9
 add-i : tie.Need-add-i Inv-loop μ-loop
 add-i c = search needs
 
--- src/writing.rt:30:5
 loop-less : tie.Need-loop-less Inv-loop μ-loop
 loop-less c = search needs
 
--- src/writing.rt:30:5
 loop-again : tie.Need-loop-again Inv-loop μ-loop
 loop-again c = putting-more (c .before .before .before .before .before .before .before .before .before .args .bytes .now) (c .before .before .before .before .before .before .before .before .before .args .out .now) (c .before .before .before .before .before .before .before .before .before .args .at) _ _ (c .before .before .before .before .before .before .loop .i) _ _ (c .before .before .before .before .before .before .loop .inv) (search needs) (c .before .before .put .ensures)
 
--- src/writing.rt:25:1
 same-length : tie.Need-same-length Inv-loop μ-loop
 same-length c = c .before .loop .inv .so-far .same-length
 
--- src/writing.rt:25:1
 returns : tie.Need-returns Inv-loop μ-loop
 returns c = putting-all (c .before .before .before .before .args .bytes .now) (c .before .before .before .before .args .out .now) (c .before .before .before .before .args .at) _ _ (c .before .loop .i) (c .before .loop .inv) (search needs)
 

@@ -5,53 +5,38 @@ use Rattle.script.proofs.WritingLaws.{appends-both, appends-as}
 use borrow.Author.Needs.{needs}
 use Rattle.script.proofs.writing.put_cause.Statement.{statement}
 use Rattle.script.proofs.writing.put_cause.Tie as tie
-use Rattle.script.proofs.writing.put_cause.Reads as reads
-use Rattle.script.proofs.writing.put_cause.Lts as lts
-use Rattle.script.proofs.writing.put_all.Reads as put-all-reads
-use Rattle.script.proofs.writing.put_literal.Reads as put-literal-reads
 
--- src/writing.rt:84:35
 enum-told : tie.Need-enum-told
 enum-told c = search needs
 
--- src/writing.rt:84:35
 slice-aggregate-put-all : tie.Need-slice-aggregate-put-all
 slice-aggregate-put-all c = search needs
 
--- src/writing.rt:84:27
 put-all-requires : tie.Need-put-all-requires
 put-all-requires c κs = search needs
 
--- src/writing.rt:85:23
 enum-known-cause : tie.Need-enum-known-cause
 enum-known-cause c = search needs
 
--- src/writing.rt:86:31
 slice-aggregate-put-all-2 : tie.Need-slice-aggregate-put-all-2
 slice-aggregate-put-all-2 c = search needs
 
--- src/writing.rt:86:17
 put-all-requires-2 : tie.Need-put-all-requires-2
 put-all-requires-2 c κs = search needs
 
--- src/writing.rt:87:13
 put-literal-requires : tie.Need-put-literal-requires
 put-literal-requires c κs = search needs
 
--- src/writing.rt:80:1
 same-length : tie.Need-same-length
 same-length c = search needs
 
--- src/writing.rt:80:1
 returns : tie.Need-returns
 unfolding bytes callWords
 returns c = appends-as (ap callWords (sym (c .before .before .before .before .before .enum-told .given .1))) (c .before .before .put-all .ensures)
 
--- src/writing.rt:80:1
 same-length-2 : tie.Need-same-length-2
 same-length-2 c = search needs
 
--- src/writing.rt:80:1
 returns-2 : tie.Need-returns-2
 unfolding bytes callWords
 returns-2 c = appends-as (ap callWords (sym (c .before .before .before .before .before .before .before .before .before .before .cause .given .1))) (appends-both (c .before .before .before .before .before .before .put-all2 .ensures) (c .before .before .put-literal .ensures))

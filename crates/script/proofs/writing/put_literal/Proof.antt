@@ -2,53 +2,39 @@
 use mathlib.Core.Path.{sym, ap, _∙_}
 use mathlib.Core.List.{_∷_}
 use Prim.Native.Nat.{ℕ}
-use Rattle.script.specs.Answers.{number}
+use Rattle.script.specs.Answers.{numeral}
 use Rattle.script.proofs.WritingLaws.{appends-both, appends-as}
 use Rattle.script.proofs.DigitLaws.{signed-negative, signed-positive}
 use borrow.Author.Needs.{needs}
 use Rattle.script.proofs.writing.put_literal.Statement.{statement}
 use Rattle.script.proofs.writing.put_literal.Tie as tie
-use Rattle.script.proofs.writing.put_literal.Reads as reads
-use Rattle.script.proofs.writing.put_literal.Lts as lts
-use Rattle.script.proofs.writing.put.Reads as put-reads
-use Rattle.script.proofs.writing.put_number.Reads as put-number-reads
-use Rattle.script.proofs.writing.wide.Reads as wide-reads
 
--- src/writing.rt:59:13
 put-requires : tie.Need-put-requires
 put-requires c κs = search needs
 
--- src/writing.rt:60:27
 wide-requires : tie.Need-wide-requires
 wide-requires c κs = search needs
 
--- src/writing.rt:60:9
 put-number-requires : tie.Need-put-number-requires
 put-number-requires c κs = search needs
 
--- src/writing.rt:60:9
 same-length : tie.Need-same-length
 same-length c = search needs
 
--- src/writing.rt:60:9
 returns : tie.Need-returns
-returns c = appends-as (ap (λ (n : ℕ). 45 ∷ number n) (c .before .before .before .before .wide .ensures) ∙ sym (signed-negative (c .before .before .before .before .before .before .before .before .before .before .before .args .literal) (c .before .before .before .before .before .before .before .before .before .if1 .taken))) (appends-both (c .before .before .before .before .before .before .before .put .ensures) (c .before .before .put-number .ensures))
+returns c = appends-as (ap (λ (n : ℕ). 45 ∷ numeral n) (c .before .before .before .before .wide .ensures) ∙ sym (signed-negative (c .before .before .before .before .before .before .before .before .before .before .before .args .literal) (c .before .before .before .before .before .before .before .before .before .if1 .taken))) (appends-both (c .before .before .before .before .before .before .before .put .ensures) (c .before .before .put-number .ensures))
 
--- src/writing.rt:62:16
 wide-requires-2 : tie.Need-wide-requires-2
 wide-requires-2 c κs = search needs
 
--- src/writing.rt:62:5
 put-number-requires-2 : tie.Need-put-number-requires-2
 put-number-requires-2 c κs = search needs
 
--- src/writing.rt:55:1
 same-length-2 : tie.Need-same-length-2
 same-length-2 c = search needs
 
--- src/writing.rt:55:1
 returns-2 : tie.Need-returns-2
-returns-2 c = appends-as (ap number (c .before .before .before .before .wide2 .ensures) ∙ sym (signed-positive (c .before .before .before .before .before .before .before .args .literal) (c .before .before .before .before .before .if1 .left))) (c .before .before .put-number2 .ensures)
+returns-2 c = appends-as (ap numeral (c .before .before .before .before .wide2 .ensures) ∙ sym (signed-positive (c .before .before .before .before .before .before .before .args .literal) (c .before .before .before .before .before .if1 .left))) (c .before .before .put-number2 .ensures)
 
 pub put-literal-spec : {M : Type 1} → statement M
 put-literal-spec =

@@ -4,11 +4,9 @@ use borrow.Author.Needs.{needs}
 use Prim.Native.Nat.{_-_}
 use lib.ListN.{length}
 use Rattle.base.proofs.Copies.{Copied, copied-none, copied-more, length-copied}
-use Rattle.session.proofs.CopyLaws.{copied-all, copied-full}
+use Rattle.session.proofs.copies.Laws.{copied-all, copied-full}
 use Rattle.session.proofs.copies.copy.Statement.{statement}
 use Rattle.session.proofs.copies.copy.Tie as tie
-use Rattle.session.proofs.copies.copy.Reads as reads
-use Rattle.session.proofs.copies.copy.Lts as lts
 
 abbrev Inv-loop : tie.InvT-loop
 Inv-loop source out₀ i₀ out i = Copied source out₀ out i
@@ -43,8 +41,12 @@ add-i c = search needs
 loop-less : tie.Need-loop-less Inv-loop μ-loop
 loop-less c = search needs
 
+-- the entry
+abbrev start : (c : tie.After-shared-slice-known Inv-loop μ-loop) → tie.Start Inv-loop μ-loop
+start c = c .before .before .before .before
+
 loop-again : tie.Need-loop-again Inv-loop μ-loop
-loop-again c = copied-more (c .before .before .before .before .args .source .now) (c .before .before .before .before .args .out .now) _ (c .before .before .before .loop .i) (c .before .before .before .loop .inv) (search needs) (omega (arith, c .before .if1 .left, length-copied (c .before .before .before .before .args .source .now) (c .before .before .before .before .args .out .now) _ _ (c .before .before .before .loop .inv)))
+loop-again c = copied-more (start c .args .source .now) (start c .args .out .now) _ (c .before .before .before .loop .i) (c .before .before .before .loop .inv) (search needs) (omega (arith, c .before .if1 .left, length-copied (start c .args .source .now) (start c .args .out .now) _ _ (c .before .before .before .loop .inv)))
 
 same-length-2 : tie.Need-same-length-2 Inv-loop μ-loop
 same-length-2 c = length-copied (c .before .before .args .source .now) (c .before .before .args .out .now) _ _ (c .before .loop .inv)

@@ -3,12 +3,9 @@ use native.Mathlib.Omega.{arith}
 use borrow.Author.Needs.{needs}
 use Prim.Native.Nat.{_-_}
 use lib.ListN.{length}
-use Rattle.session.proofs.CopyLaws.{Summed, summed-none, summed-more, summed-all}
+use Rattle.session.proofs.copies.Laws.{Summed, summed-none, summed-more, summed-all}
 use Rattle.session.proofs.copies.sum_of.Statement.{statement}
 use Rattle.session.proofs.copies.sum_of.Tie as tie
-use Rattle.session.proofs.copies.sum_of.Reads as reads
-use Rattle.session.proofs.copies.sum_of.Lts as lts
-use Rattle.session.proofs.copies.wide.Reads as wide-reads
 
 abbrev Inv-loop : tie.InvT-loop
 Inv-loop numbers sum₀ i₀ sum i = Summed numbers sum i

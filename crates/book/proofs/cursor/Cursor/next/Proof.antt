@@ -8,17 +8,12 @@ use Rattle.book.proofs.CursorLaws.{no-word, next-word}
 use borrow.Author.Needs.{needs}
 use Rattle.book.proofs.cursor.Cursor.next.Statement.{statement}
 use Rattle.book.proofs.cursor.Cursor.next.Tie as tie
-use Rattle.book.proofs.cursor.Cursor.next.Reads as reads
-use Rattle.book.proofs.cursor.Cursor.next.Lts as lts
-use Rattle.book.proofs.bytes.token.Reads as token-reads
-use Rattle.book.proofs.bytes.word_end.Reads as word-end-reads
-use Rattle.book.proofs.cursor.gap_end.Reads as gap-end-reads
 
 gap-end-requires : tie.Need-gap-end-requires
 gap-end-requires c κs = search needs
 
 returns : tie.Need-returns
-returns c = no-word (c .before .before .before .args .text .now) (c .before .before .before .args .self .at) _ (c .before .gap-end .ensures) (c .if1 .taken)
+returns c = no-word (c .before .gap-end .ensures) (c .if1 .taken)
 
 word-end-requires : tie.Need-word-end-requires
 word-end-requires c κs = search needs
@@ -45,13 +40,13 @@ enum-told-2 : tie.Need-enum-told-2
 enum-told-2 c = search needs
 
 returns-2 : tie.Need-returns-2
-returns-2 c = next-word (c .before .before .before .before .before .before .before .before .before .args .text .now) (c .before .before .before .before .before .before .before .before .before .args .self .at) (c .before .before .before .before .before .before .before .gap-end .result) (c .before .before .before .before .before .before .before .gap-end .ensures) (c .before .before .before .before .before .word-end .result) _ (omega arith) (c .before .before .before .before .before .word-end .ensures) (ap tokenIn (sym (c .before .l .given .1)) ∙ c .before .before .before .token .ensures)
+returns-2 c = next-word (c .before .before .before .before .before .before .before .gap-end .ensures) _ _ (omega arith) (c .before .before .before .before .before .word-end .ensures) (ap tokenIn (sym (c .before .l .given .1)) ∙ c .before .before .before .token .ensures)
 
 returns-3 : tie.Need-returns-3
-returns-3 c = next-word (c .before .before .before .before .before .before .before .before .args .text .now) (c .before .before .before .before .before .before .before .before .args .self .at) (c .before .before .before .before .before .before .gap-end .result) (c .before .before .before .before .before .before .gap-end .ensures) (c .before .before .before .before .word-end .result) _ (omega arith) (c .before .before .before .before .word-end .ensures) (ap tokenIn (sym (c .enum-told .given .1)) ∙ c .before .before .token .ensures)
+returns-3 c = next-word (c .before .before .before .before .before .before .gap-end .ensures) _ _ (omega arith) (c .before .before .before .before .word-end .ensures) (ap tokenIn (sym (c .enum-told .given .1)) ∙ c .before .before .token .ensures)
 
 returns-4 : tie.Need-returns-4
-returns-4 c = (_, (next-word (c .before .before .before .before .before .before .before .before .args .text .now) (c .before .before .before .before .before .before .before .before .args .self .at) (c .before .before .before .before .before .before .gap-end .result) (c .before .before .before .before .before .before .gap-end .ensures) (c .before .before .before .before .word-end .result) _ (omega arith) (c .before .before .before .before .word-end .ensures) (ap tokenIn (sym (c .enum-told2 .given .1)) ∙ c .before .before .token .ensures)) .tokens)
+returns-4 c = (_, (next-word (c .before .before .before .before .before .before .gap-end .ensures) _ _ (omega arith) (c .before .before .before .before .word-end .ensures) (ap tokenIn (sym (c .enum-told2 .given .1)) ∙ c .before .before .token .ensures)) .tokens)
 
 pub next-spec : {M : Type 1} → statement M
 next-spec =

@@ -3,10 +3,6 @@ use Rattle.book.proofs.CursorLaws.{line-ends, next-in-line}
 use borrow.Author.Needs.{needs}
 use Rattle.book.proofs.cursor.Cursor.next_in_line.Statement.{statement}
 use Rattle.book.proofs.cursor.Cursor.next_in_line.Tie as tie
-use Rattle.book.proofs.cursor.Cursor.next_in_line.Reads as reads
-use Rattle.book.proofs.cursor.Cursor.next_in_line.Lts as lts
-use Rattle.book.proofs.bytes.word_end.Reads as word-end-reads
-use Rattle.book.proofs.cursor.space_end.Reads as space-end-reads
 
 space-end-requires : tie.Need-space-end-requires
 space-end-requires c κs = search needs
@@ -15,10 +11,10 @@ word-end-requires : tie.Need-word-end-requires
 word-end-requires c κs = search needs
 
 returns : tie.Need-returns
-returns c = line-ends (c .before .before .before .before .args .text .now) (c .before .before .before .before .args .self .at) _ (c .before .before .space-end .ensures) _ (c .before .word-end .ensures) (c .if1 .taken)
+returns c = line-ends (c .before .before .space-end .ensures) _ (c .before .word-end .ensures) (c .if1 .taken)
 
 returns-2 : tie.Need-returns-2
-returns-2 c = next-in-line (c .before .before .before .before .args .text .now) (c .before .before .before .before .args .self .at) _ (c .before .before .space-end .ensures) _ (c .before .word-end .ensures) (c .if1 .left)
+returns-2 c = next-in-line (c .before .before .space-end .ensures) _ (c .before .word-end .ensures) (c .if1 .left)
 
 pub next-in-line-spec : {M : Type 1} → statement M
 next-in-line-spec = tie.close (tie.spec space-end-requires word-end-requires returns returns-2)

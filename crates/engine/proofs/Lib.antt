@@ -1,0 +1,2 @@
+-- The laws of `engine` that proofs cite.
+pub mod StepLaws

@@ -1,0 +1,69 @@
+-- `backtrack` meets its contract: levels leave the trail, the conflict is over, one backtrack more. Assumes nothing.
+use Rattle.layout.specs.Layout.{conflictAt, backtracksAt}
+use Prim.Native.Nat.{_≤_}
+use native.Mathlib.Omega.{arith}
+use borrow.Author.Needs.{needs}
+use lib.ListN.{length, length-set}
+use lib.Seq.{getD-set-other}
+use Rattle.book.proofs.WellFormedLaws.{well-formed-limited}
+use Rattle.engine.proofs.StepLaws.{few-backtracks, backtrack-cutting, backtrack-done}
+use Rattle.engine.proofs.backtrack.Statement.{statement}
+use Rattle.engine.proofs.backtrack.Tie as tie
+
+variables-requires : tie.Need-variables-requires
+variables-requires c κs =
+    search needs
+
+-- the entry
+abbrev start : (c : tie.After-variables) → tie.Start
+start c = c .before .before .before .before
+
+cut-levels-requires : tie.Need-cut-levels-requires
+cut-levels-requires c κs =
+    let same = c .variables .ensures in (
+      record {
+        few-variables = omega (arith, well-formed-limited (start c .args .book .now) (start c .pre .0 .well) .variables);
+        long = omega (arith, start c .pre .0 .encodes .long);
+      },
+      (start c .pre .0 .run .trail, backtrack-cutting (start c .pre .0) (start c .args .k) (start c .pre .1) (c .variables .result) (c .variables .ensures)),
+    )
+
+-- the numbers are as many as before
+long : (c : tie.After-cut-levels) → 4 ≤ length (c .cut-levels .last .0)
+long c = omega (arith, c .cut-levels .ensures .1 .same-length, start (c .before) .pre .0 .encodes .long)
+
+slice-write-session : tie.Need-slice-write-session
+slice-write-session c =
+    omega (arith, long (c .before .before))
+
+slice-read-session : tie.Need-slice-read-session
+slice-read-session c =
+    simp length-set (omega (arith, long (c .before .before .before)))
+
+add-session : tie.Need-add-session
+add-session c =
+    let here = c .before .before .before .before in
+    omega (
+      arith,
+      getD-set-other (c .before .before .before .cut-levels .last .0) conflictAt backtracksAt 0 0 (λ z. omega arith),
+      c .before .before .before .cut-levels .ensures .1 .backtracks,
+      few-backtracks (start here .pre .0) (start here .args .k) (start here .pre .1),
+    )
+
+slice-write-session-2 : tie.Need-slice-write-session-2
+slice-write-session-2 c =
+    simp length-set (omega (arith, long (c .before .before .before)))
+
+same-length : tie.Need-same-length
+same-length c =
+    search needs
+
+returns : tie.Need-returns
+returns c =
+    let here = c .before .before .before .before in
+    λ at accepted.
+    backtrack-done at (start here .args .k) accepted (c .before .before .before .before .variables .result) (c .before .before .before .cut-levels .last .0) (c .before .before .before .before .variables .ensures) (c .before .before .before .cut-levels .ensures .1)
+    (c .before .before .before .cut-levels .ensures .0 (at .run .trail) (backtrack-cutting at (start here .args .k) accepted (c .before .before .before .before .variables .result) (c .before .before .before .before .variables .ensures)))
+
+pub backtrack-spec : {M : Type 1} → statement M
+backtrack-spec = tie.close (tie.spec variables-requires cut-levels-requires slice-write-session slice-read-session add-session slice-write-session-2 same-length returns)

@@ -1,0 +1,3 @@
+-- The laws of src/opening.rt.
+pub mod FirstWatchLaws
+pub mod Laws

@@ -1,0 +1,222 @@
+-- `watch_clause` meets its contract: the second watch with the pointer, and two nodes at the front of lists. Assumes nothing.
+use Prim.Native.Nat.{ℕ, _+_, _*_, _-_, _≤_, _<_}
+use mathlib.Core.List.{List}
+use mathlib.Core.Path.{_≡_, ap, _∙_}
+use native.Mathlib.Omega.{arith}
+use lib.ListN.{length, getD, length-set}
+use Rattle.book.specs.Numbers.{variablesOf, clausesOf, clauseAt}
+use Rattle.book.proofs.PartLaws.{length-clauses}
+use Rattle.book.proofs.WellFormedLaws.{well-formed-limited}
+use Rattle.layout.specs.Layout.{Fits}
+use Rattle.engine.proofs.visit.StoreLaws.{fits-kept}
+use Rattle.engine.proofs.opening.Laws.{ClauseRead, clause-read}
+use Rattle.engine.proofs.opening.FirstWatchLaws.{first-none, first-some}
+use borrow.Author.Needs.{needs}
+use Rattle.engine.proofs.opening.watch_clause.Statement.{statement}
+use Rattle.engine.proofs.opening.watch_clause.Tie as tie
+
+variables-requires : tie.Need-variables-requires
+variables-requires c κs = search needs
+
+clauses-requires : tie.Need-clauses-requires
+clauses-requires c κs = search needs
+
+clause-start-requires : tie.Need-clause-start-requires
+clause-start-requires c κs = search needs
+
+add-clause-start : tie.Need-add-clause-start
+add-clause-start c = search needs
+
+clause-start-requires-2 : tie.Need-clause-start-requires-2
+clause-start-requires-2 c κs = search needs
+
+-- the entry, and what is read of the book
+abbrev start : (c : tie.After-clause-start2) → tie.Start
+start c = c .before .before .before .before .before .before
+
+abbrev book : (c : tie.After-clause-start2) → List ℕ
+book c = start c .args .book .now
+
+abbrev session : (c : tie.After-clause-start2) → List ℕ
+session c = start c .args .session .now
+
+abbrev variables : (c : tie.After-clause-start2) → ℕ
+variables c = c .before .before .before .variables .result
+
+abbrev clauses : (c : tie.After-clause-start2) → ℕ
+clauses c = c .before .before .clauses .result
+
+variables-are : (c : tie.After-clause-start2) → variables c ≡ variablesOf (book c)
+variables-are c = c .before .before .before .variables .ensures
+
+clauses-are : (c : tie.After-clause-start2) → clauses c ≡ clausesOf (book c)
+clauses-are c = c .before .before .clauses .ensures
+
+-- the clause as it was read
+clause-at : (c : tie.After-clause-start2) → ClauseRead (book c) (start c .args .c) (c .before .clause-start .result) (c .clause-start2 .result)
+clause-at c =
+    let s = start c in
+    clause-read (book c) (s .args .c) (c .before .clause-start .result) (c .clause-start2 .result) (s .pre .0) (s .pre .2) (c .before .clause-start .ensures) (c .clause-start2 .ensures)
+
+-- where the clause's numbers lie
+fits-at : (c : tie.After-clause-start2) → Fits (variables c) (clauses c) (session c)
+fits-at c =
+    let s = start c in
+    let limited = well-formed-limited (book c) (s .pre .0) in
+    let many = length-clauses (book c) 0 (clausesOf (book c)) in
+    record {
+      few-variables = omega (arith, limited .variables, variables-are c);
+      few-clauses = omega (arith, limited .clauses, clauses-are c);
+      long = omega (arith, s .pre .1, variables-are c, clauses-are c);
+    }
+
+inside : (c : tie.After-clause-start2) → start c .args .c < clauses c
+inside c = omega (arith, clauses-are c, start c .pre .2)
+
+abbrev at-else1 : tie.Else1 → tie.After-clause-start2
+at-else1 c = c .before
+
+-- a clause of two literals or more
+two : (c : tie.Else1) → 2 ≤ length (clauseAt (book (at-else1 c)) (start (at-else1 c) .args .c))
+two c = omega (arith, clause-at (c .before) .size-is, c .if1 .left)
+
+literal-at : (c : tie.Else1) (i : ℕ) → i < 2
+    → (2 ≤ getD (book (at-else1 c)) (c .before .before .clause-start .result + i) 0)
+    × (getD (book (at-else1 c)) (c .before .before .clause-start .result + i) 0 ≤ 2 * variables (at-else1 c) + 1)
+literal-at c i h =
+    let few : i < length (clauseAt (book (at-else1 c)) (start (at-else1 c) .args .c)) = omega (arith, two c) in
+    let bounds = clause-at (c .before) .bounds i few in
+    let is = clause-at (c .before) .literal i few in
+    (omega (arith, is, bounds .0), omega (arith, is, bounds .1, variables-are (at-else1 c)))
+
+first-at : (c : tie.Else1)
+    → (2 ≤ getD (book (at-else1 c)) (c .before .before .clause-start .result) 0)
+    × (getD (book (at-else1 c)) (c .before .before .clause-start .result) 0 ≤ 2 * variables (at-else1 c) + 1)
+first-at c =
+    let few : 0 < length (clauseAt (book (at-else1 c)) (start (at-else1 c) .args .c)) = omega (arith, two c) in
+    let bounds = clause-at (c .before) .bounds 0 few in
+    let is = clause-at (c .before) .first few in
+    (omega (arith, is, bounds .0), omega (arith, is, bounds .1, variables-are (at-else1 c)))
+
+abbrev at-set-watch : tie.After-set-watch → tie.After-clause-start2
+at-set-watch c = c .before .before .before
+
+-- the numbers are as many as before
+stored-length : (c : tie.After-set-watch) → length (c .set-watch .last .0) ≡ length (session (at-set-watch c))
+stored-length c = ap length (c .set-watch .ensures) ∙ simp length-set
+
+abbrev at-push-front : tie.After-push-front → tie.After-clause-start2
+at-push-front c = c .before .before .before .before .before .before .before .before
+
+pushed-length : (c : tie.After-push-front) → length (c .push-front .last .0) ≡ length (session (at-push-front c))
+pushed-length c = c .push-front .ensures .only .same-length ∙ stored-length (c .before .before .before .before .before)
+
+sub-if1 : tie.Need-sub-if1
+sub-if1 c = clause-at c .rises
+
+returns : tie.Need-returns
+returns c =
+    let here = c .before in
+    first-none (book here) (start here .args .c) (start here .pre .0) (start here .pre .2) (omega (arith, clause-at (c .before) .size-is, c .if1 .taken))
+
+mul-node : tie.Need-mul-node
+mul-node c =
+    let here = c .before in
+    let f = fits-at here in let i = inside here in omega arith
+
+cast-node : tie.Need-cast-node
+cast-node c =
+    let here = c .before in
+    let f = fits-at here in let i = inside here in omega arith
+
+add-set-watch : tie.Need-add-set-watch
+add-set-watch c =
+    let here = c .before .before in
+    let f = fits-at here in let i = inside here in omega arith
+
+set-watch-requires : tie.Need-set-watch-requires
+set-watch-requires c κs =
+    let here = c .before .before in
+    let i = inside here in (fits-at here, omega arith, omega arith)
+
+mul-push-front : tie.Need-mul-push-front
+mul-push-front c = omega (arith, clause-at (c .before .before .before .before .before .before) .fits)
+
+shared-slice-read-push-front : tie.Need-shared-slice-read-push-front
+shared-slice-read-push-front c =
+    omega (arith, clause-at (c .before .before .before .before .before .before .before) .fits, c .before .before .before .before .before .before .if1 .left)
+
+add-push-front : tie.Need-add-push-front
+add-push-front c =
+    let here = c .before .before .before .before .before .before .before in
+    let f = fits-at here in let i = inside here in omega arith
+
+push-front-requires : tie.Need-push-front-requires
+push-front-requires c κs =
+    let here = c .before .before .before .before .before .before .before in
+    let i = inside here in
+    let l = first-at (c .before .before .before .before .before .before) in
+    (fits-kept (stored-length (c .before .before .before .before)) (fits-at here), l .0, l .1, omega arith, omega arith)
+
+add-push-front-2 : tie.Need-add-push-front-2
+add-push-front-2 c = search needs
+
+mul-push-front-2 : tie.Need-mul-push-front-2
+mul-push-front-2 c =
+    omega (arith, clause-at (c .before .before .before .before .before .before .before .before .before .before .before) .fits, c .before .before .before .before .before .before .before .before .before .before .if1 .left)
+
+shared-slice-read-push-front-2 : tie.Need-shared-slice-read-push-front-2
+shared-slice-read-push-front-2 c =
+    omega (arith, clause-at (c .before .before .before .before .before .before .before .before .before .before .before .before) .fits, c .before .before .before .before .before .before .before .before .before .before .before .if1 .left)
+
+add-push-front-3 : tie.Need-add-push-front-3
+add-push-front-3 c =
+    let here = c .before .before .before .before .before .before .before .before .before .before .before .before in
+    let f = fits-at here in let i = inside here in omega arith
+
+push-front-requires-2 : tie.Need-push-front-requires-2
+push-front-requires-2 c κs =
+    let here = c .before .before .before .before .before .before .before .before .before .before .before .before in
+    let i = inside here in
+    let l = literal-at (c .before .before .before .before .before .before .before .before .before .before .before) 1 (omega arith) in
+    (fits-kept (pushed-length (c .before .before .before .before)) (fits-at here), l .0, l .1, omega arith, omega arith)
+
+same-length : tie.Need-same-length
+same-length c = search needs
+
+returns-2 : tie.Need-returns-2
+returns-2 c =
+    let here = c .before .before .before .before .before .before .before .before .before .before .before .before .before .before .before in
+    let s = start here in
+    let read = clause-at here in
+    let big = two (c .before .before .before .before .before .before .before .before .before .before .before .before .before .before) in
+    first-some (s .args .book .now) (s .args .c) (s .pre .0) (s .pre .2) (variables here) (clauses here) _ _ (s .args .session .now)
+    (variables-are here) (clauses-are here) (read .first (omega arith)) (read .literal 1 big) big
+    (c .before .before .before .before .before .before .before .before .before .before .before .before .set-watch .ensures) (c .before .before .before .before .before .before .before .push-front .ensures) (c .before .before .push-front2 .ensures)
+
+pub watch-clause-spec : {M : Type 1} → statement M
+watch-clause-spec =
+    tie.close
+    (tie.spec
+    variables-requires
+    clauses-requires
+    clause-start-requires
+    add-clause-start
+    clause-start-requires-2
+    sub-if1
+    returns
+    mul-node
+    cast-node
+    add-set-watch
+    set-watch-requires
+    mul-push-front
+    shared-slice-read-push-front
+    add-push-front
+    push-front-requires
+    add-push-front-2
+    mul-push-front-2
+    shared-slice-read-push-front-2
+    add-push-front-3
+    push-front-requires-2
+    same-length
+    returns-2)

@@ -1,0 +1,2 @@
+-- The laws of src/propagation.rt.
+pub mod Laws

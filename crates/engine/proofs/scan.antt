@@ -1,0 +1,2 @@
+-- The laws of src/scan.rt.
+pub mod Laws

@@ -1,0 +1,3 @@
+-- The laws of src/trail.rt.
+pub mod CutLaws
+pub mod Laws

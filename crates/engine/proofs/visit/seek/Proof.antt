@@ -1,0 +1,316 @@
+-- `seek` meets its contract: what the scan answers says what becomes of the clause. Assumes nothing.
+use Prim.Native.Nat.{ℕ, _+_, _*_, _-_, _≤_, _<_}
+use mathlib.Core.Path.{_≡_, ap, _∙_}
+use native.Mathlib.Omega.{arith}
+use mathlib.Core.List.{List}
+use lib.ListN.{length, getD, set, length-set}
+use Rattle.book.specs.Formula.{maxClause}
+use Rattle.book.specs.Numbers.{variablesOf, clausesOf, clauseStart, formulaOf}
+use Rattle.run.specs.Run.{clauseOf, cellOf}
+use Rattle.run.specs.Scan.{scan}
+use Rattle.layout.specs.Layout.{Fits, lengthAt, decisionsAt, conflictAt, checksAt}
+use Rattle.engine.specs.Inner.Lists.{Standing}
+use Rattle.engine.specs.Inner.Trail.{assignNums}
+use Rattle.engine.specs.Inner.Scan.{scannedIn}
+use Rattle.engine.specs.Inner.Visit.{Seeking}
+use Rattle.engine.specs.declared.lists.Walk.{Walk}
+use Rattle.engine.specs.declared.scan.Scan.the-variants.{Found, Nothing}
+use Rattle.engine.proofs.visit.StoreLaws.{fits-kept, fits-trail}
+use Rattle.engine.proofs.visit.SpotLaws.{half, Spot, spot, spot-fits, spot-standing}
+use Rattle.engine.proofs.visit.SeekLaws.{seeking-scannable, seeking-scanned, found-literal, found-bounds, visited-moved, visited-conflict, implied-asks, visited-implied}
+use borrow.Author.Needs.{needs}
+use Rattle.engine.proofs.visit.seek.Statement.{statement}
+use Rattle.engine.proofs.visit.seek.Tie as tie
+
+variables-requires : tie.Need-variables-requires
+variables-requires c κs = search needs
+
+clauses-requires : tie.Need-clauses-requires
+clauses-requires c κs = search needs
+
+wide-requires : tie.Need-wide-requires
+wide-requires c κs = search needs
+
+-- the entry, and what is read of the book
+abbrev start : (c : tie.After-wide) → tie.Start
+start c = c .before .before .before .before .before
+
+abbrev book : (c : tie.After-wide) → List ℕ
+book c = start c .args .book .now
+
+abbrev session : (c : tie.After-wide) → List ℕ
+session c = start c .args .session .now
+
+abbrev walk : (c : tie.After-wide) → Walk
+walk c = start c .args .walk
+
+abbrev variables : (c : tie.After-wide) → ℕ
+variables c = c .before .before .variables .result
+
+abbrev clauses : (c : tie.After-wide) → ℕ
+clauses c = c .before .clauses .result
+
+variables-are : (c : tie.After-wide) → variables c ≡ variablesOf (book c)
+variables-are c = c .before .before .variables .ensures
+
+clauses-are : (c : tie.After-wide) → clauses c ≡ clausesOf (book c)
+clauses-are c = c .before .clauses .ensures
+
+abbrev Sought : (c : tie.After-wide) → Type 0
+Sought c = Seeking (book c) (session c) (walk c) (start c .args .other) (start c .args .dead)
+
+-- the clause at which the walk stands
+spot-at : (c : tie.After-wide) → Spot (book c) (session c) (walk c)
+spot-at c = spot (start c .pre .at)
+
+fits-at : (c : tie.After-wide) → Fits (variables c) (clauses c) (session c)
+fits-at c = spot-fits (start c .pre .at) _ _ (variables-are c) (clauses-are c)
+
+standing-at : (c : tie.After-wide) → Standing (variables c) (clauses c) (walk c)
+standing-at c = spot-standing (start c .pre .at) _ _ (variables-are c) (clauses-are c)
+
+abbrev at-checks-at : tie.After-checks-at → tie.After-wide
+at-checks-at c = c .before
+
+count-is : (c : tie.After-checks-at)
+    → c .checks-at .result + half ((at-checks-at c) .wide .result)
+    ≡ checksAt (variables (at-checks-at c)) (clauses (at-checks-at c)) + half (walk (at-checks-at c) .node)
+count-is c = omega (arith, c .checks-at .ensures, ap half ((at-checks-at c) .wide .ensures))
+
+abbrev at-position : tie.After-position → tie.After-wide
+at-position c = c .before .before .before .before .before
+
+-- what the scan answers
+scanned : (c : tie.After-position) (seeking : Sought (at-position c))
+    → scannedIn (Found (c .position .given .0 .0) (c .position .given .0 .1 .0))
+    ≡ scan (seeking .at .run .trail) (clauseOf (formulaOf (book (at-position c))) (seeking .at .clause)) (cellOf (seeking .at .run) (seeking .at .clause))
+scanned c seeking = seeking-scanned seeking _ _ _ (c .position .given .1) (ap half ((at-position c) .wide .ensures)) (c .before .before .scan-at .ensures)
+
+abbrev at-made : tie.After-made → tie.After-wide
+at-made c = c .before .before .before .before .before
+
+missed : (c : tie.After-made) (seeking : Sought (at-made c))
+    → scannedIn (Nothing (c .made .given .0 .0))
+    ≡ scan (seeking .at .run .trail) (clauseOf (formulaOf (book (at-made c))) (seeking .at .clause)) (cellOf (seeking .at .run) (seeking .at .clause))
+missed c seeking = seeking-scanned seeking _ _ _ (c .made .given .1) (ap half ((at-made c) .wide .ensures)) (c .before .before .scan-at .ensures)
+
+abbrev at-clause-start : tie.After-clause-start → tie.After-wide
+at-clause-start c = c .before .before .before .before .before .before .before
+
+-- the literal at the position found
+start-is : (c : tie.After-clause-start) → c .clause-start .result ≡ clauseStart (book (at-clause-start c)) (half (walk (at-clause-start c) .node))
+start-is c = c .clause-start .ensures ∙ ap (λ (x : ℕ). clauseStart (book (at-clause-start c)) (half x)) ((at-clause-start c) .wide .ensures)
+
+found : (c : tie.After-clause-start) (seeking : Sought (at-clause-start c))
+    → (c .before .before .position .given .0 .0 < maxClause)
+    × (c .clause-start .result + c .before .before .position .given .0 .0 < length (book (at-clause-start c)))
+    × (getD (book (at-clause-start c)) (c .clause-start .result + c .before .before .position .given .0 .0) 0
+    ≡ getD (clauseOf (formulaOf (book (at-clause-start c))) (seeking .at .clause)) (c .before .before .position .given .0 .0) 0)
+found c seeking = found-literal seeking _ _ (scanned (c .before .before) seeking) _ (start-is c)
+
+to-bounds : (c : tie.After-clause-start)
+    → (2 ≤ getD (book (at-clause-start c)) (c .clause-start .result + c .before .before .position .given .0 .0) 0)
+    × (getD (book (at-clause-start c)) (c .clause-start .result + c .before .before .position .given .0 .0) 0 ≤ 2 * variables (at-clause-start c) + 1)
+to-bounds c =
+    let pre = start (at-clause-start c) .pre in
+    let b = found-bounds pre _ _ (scanned (c .before .before) pre) in
+    (rw (found c pre .2) (b .0), rw (found c pre .2) (omega (arith, b .1, variables-are (at-clause-start c))))
+
+abbrev at-take-out : tie.After-take-out → tie.After-wide
+at-take-out c = c .before .before .before .before .before .before .before .before .before .before
+
+-- the numbers are as many as before, store by store
+taken-length : (c : tie.After-take-out) → length (c .take-out .last .0) ≡ length (session (at-take-out c))
+taken-length c = c .take-out .ensures .only .same-length
+
+abbrev at-set-watch : tie.After-set-watch → tie.After-wide
+at-set-watch c = c .before .before .before .before .before .before .before .before .before .before .before .before .before .before
+
+stored-length : (c : tie.After-set-watch) → length (c .set-watch .last .0) ≡ length (session (at-set-watch c))
+stored-length c = ap length (c .set-watch .ensures) ∙ simp length-set (taken-length (c .before .before .before .before))
+
+abbrev at-push-front : tie.After-push-front → tie.After-wide
+at-push-front c = c .before .before .before .before .before .before .before .before .before .before .before .before .before .before .before .before .before .before
+
+pushed-length : (c : tie.After-push-front) → length (c .push-front .last .0) ≡ length (session (at-push-front c))
+pushed-length c = c .push-front .ensures .only .same-length ∙ stored-length (c .before .before .before .before)
+
+abbrev at-add-checks2 : tie.After-add-checks2 → tie.After-wide
+at-add-checks2 c = c .before .before .before .before .before .before .before .before
+
+counted-length : (c : tie.After-add-checks2) → length (c .add-checks2 .last .0) ≡ length (session (at-add-checks2 c))
+counted-length c = ap length (c .add-checks2 .ensures) ∙ simp length-set
+
+abbrev at-assign : tie.After-assign → tie.After-wide
+at-assign c = c .before .before .before .before .before .before .before .before .before .before .before .before .before .before
+
+assigned-length : (c : tie.After-assign) → length (c .assign .last .0) ≡ length (session (at-assign c))
+assigned-length c = ap length (c .assign .ensures) ∙ simp length-set (counted-length (c .before .before .before .before .before .before))
+
+sub-c : tie.Need-sub-c
+sub-c c = let s = standing-at c in omega arith
+
+checks-at-requires : tie.Need-checks-at-requires
+checks-at-requires c κs = let f = fits-at c in (f .few-variables, f .few-clauses)
+
+add-count : tie.Need-add-count
+add-count c = let f = fits-at (c .before) in let s = standing-at (c .before) in omega arith
+
+scan-at-requires : tie.Need-scan-at-requires
+scan-at-requires c κs =
+    let here = c .before .before in
+    seeking-scannable (start here .pre) _ (ap half (here .wide .ensures))
+
+enum-known-position : tie.Need-enum-known-position
+enum-known-position c = search needs
+
+clause-start-requires : tie.Need-clause-start-requires
+clause-start-requires c κs =
+    let here = c .before .before .before .before .before .before in
+    (start here .pre .at .well, let s = spot-at here in let e = here .wide .ensures in omega (arith, s .inside))
+
+add-to : tie.Need-add-to
+add-to c = let f = found c (start (c .before .before .before .before .before .before .before) .pre) in omega arith
+
+mul-to : tie.Need-mul-to
+mul-to c = let f = found c (start (c .before .before .before .before .before .before .before) .pre) in omega arith
+
+shared-slice-read-to : tie.Need-shared-slice-read-to
+shared-slice-read-to c = found (c .before) (start (c .before .before .before .before .before .before .before .before) .pre) .1
+
+take-out-requires : tie.Need-take-out-requires
+take-out-requires c κs =
+    let here = c .before .before .before .before .before .before .before .before .before in
+    (fits-at here, standing-at here)
+
+cast-set-watch : tie.Need-cast-set-watch
+cast-set-watch c =
+    let f = found (c .before .before .before .before .before .before) (start (c .before .before .before .before .before .before .before .before .before .before .before .before .before) .pre) in omega arith
+
+set-watch-requires : tie.Need-set-watch-requires
+set-watch-requires c κs =
+    let here = c .before .before .before .before .before .before .before .before .before .before .before .before .before in
+    let s = standing-at here in (fits-kept (taken-length (c .before .before .before)) (fits-at here), s .some, s .node-within)
+
+push-front-requires : tie.Need-push-front-requires
+push-front-requires c κs =
+    let here = c .before .before .before .before .before .before .before .before .before .before .before .before .before .before .before .before .before in
+    let s = standing-at here in
+    let b = to-bounds (c .before .before .before .before .before .before .before .before .before .before) in
+    (fits-kept (stored-length (c .before .before .before)) (fits-at here), b .0, b .1, s .some, s .node-within)
+
+add-checks-requires : tie.Need-add-checks-requires
+add-checks-requires c κs =
+    let here = c .before .before .before .before .before .before .before .before .before .before .before .before .before .before .before .before .before .before .before .before .before in
+    let f = fits-at here in
+    let s = standing-at here in
+    let n = count-is (c .before .before .before .before .before .before .before .before .before .before .before .before .before .before .before .before .before .before .before .before) in
+    omega (arith, pushed-length (c .before .before .before), f .long)
+
+enum-known-made : tie.Need-enum-known-made
+enum-known-made c = search needs
+
+add-checks-requires-2 : tie.Need-add-checks-requires-2
+add-checks-requires-2 c κs =
+    let here = c .before .before .before .before .before .before .before in
+    let f = fits-at here in
+    let s = standing-at here in
+    let n = count-is (c .before .before .before .before .before .before) in
+    omega (arith, f .long)
+
+cast-session : tie.Need-cast-session
+cast-session c = search needs
+
+add-session : tie.Need-add-session
+add-session c = search needs
+
+slice-write-session : tie.Need-slice-write-session
+slice-write-session c = search needs
+
+same-length : tie.Need-same-length
+same-length c = search needs
+
+returns : tie.Need-returns
+returns c =
+    let here = c .before .before .before .before .before .before .before .before .before .before .before in
+    λ seeking. visited-conflict seeking _ (missed (c .before .before .before .before .before .before) seeking) (c .if1 .taken)
+    (variables here) (clauses here) _ _ _ (variables-are here) (clauses-are here)
+    (count-is (c .before .before .before .before .before .before .before .before .before .before)) (ap (λ (x : ℕ). half x + 1) (here .wide .ensures))
+    (ap (λ (s : List ℕ). set s conflictAt (half (here .wide .result) + 1)) (c .before .before .before .add-checks2 .ensures))
+
+slice-read-level : tie.Need-slice-read-level
+slice-read-level c = search needs
+
+assign-requires : tie.Need-assign-requires
+assign-requires c κs =
+    let here = c .before .before .before .before .before .before .before .before .before .before .before .before .before in
+    let f = fits-at here in
+    let asks = implied-asks (start here .pre) _ (missed (c .before .before .before .before .before .before .before .before) (start here .pre)) (c .before .before .if1 .left) (variables here) (clauses here) _ (variables-are here) (clauses-are here) (count-is (c .before .before .before .before .before .before .before .before .before .before .before .before)) in
+    let count = ap (λ (s : List ℕ). getD s lengthAt 0) (c .before .before .before .before .before .add-checks2 .ensures) in
+    let long = counted-length (c .before .before .before .before .before) in
+    (fits-trail (fits-kept long f), omega (arith, asks .0, variables-are here), asks .1, omega (arith, asks .2, variables-are here))
+
+keep-requires : tie.Need-keep-requires
+keep-requires c κs =
+    let here = c .before .before .before .before .before .before .before .before .before .before .before .before .before .before .before .before .before in
+    (fits-kept (assigned-length (c .before .before .before)) (fits-at here), standing-at here)
+
+same-length-2 : tie.Need-same-length-2
+same-length-2 c = search needs
+
+returns-2 : tie.Need-returns-2
+returns-2 c =
+    let here = c .before .before .before .before .before .before .before .before .before .before .before .before .before .before .before .before .before .before .before .before .before .before .before .before in
+    λ seeking. visited-moved seeking _ _ (scanned (c .before .before .before .before .before .before .before .before .before .before .before .before .before .before .before .before .before .before .before) seeking)
+    (variables here) (clauses here) _ _ (c .before .before .before .before .before .before .before .before .before .before .before .before .before .before .take-out .result)
+    (variables-are here) (clauses-are here) (count-is (c .before .before .before .before .before .before .before .before .before .before .before .before .before .before .before .before .before .before .before .before .before .before .before)) (found (c .before .before .before .before .before .before .before .before .before .before .before .before .before .before .before .before .before) seeking .2)
+    (c .before .before .before .before .before .before .before .before .before .before .before .before .before .before .take-out .ensures) (c .before .before .before .before .before .before .before .before .before .before .set-watch .ensures) (c .before .before .before .before .before .before .push-front .ensures) (c .before .before .add-checks .ensures)
+
+same-length-3 : tie.Need-same-length-3
+same-length-3 c = search needs
+
+returns-3 : tie.Need-returns-3
+returns-3 c =
+    let here = c .before .before .before .before .before .before .before .before .before .before .before .before .before .before .before .before .before .before in
+    λ seeking. visited-implied seeking _ (missed (c .before .before .before .before .before .before .before .before .before .before .before .before .before) seeking) (c .before .before .before .before .before .before .before .if1 .left)
+    (variables here) (clauses here) _ (getD (c .before .before .before .before .before .before .before .before .before .before .add-checks2 .last .0) decisionsAt 0) _ (c .keep .result)
+    (variables-are here) (clauses-are here) (count-is (c .before .before .before .before .before .before .before .before .before .before .before .before .before .before .before .before .before))
+    (ap (λ (s : List ℕ). getD s decisionsAt 0) (c .before .before .before .before .before .before .before .before .before .before .add-checks2 .ensures))
+    (c .before .before .before .before .assign .ensures ∙ ap (λ (s : List ℕ). assignNums (variables here) s (start here .args .other) (getD (c .before .before .before .before .before .before .before .before .before .before .add-checks2 .last .0) decisionsAt 0)) (c .before .before .before .before .before .before .before .before .before .before .add-checks2 .ensures))
+    (c .keep .ensures)
+
+pub seek-spec : {M : Type 1} → statement M
+seek-spec =
+    tie.close
+    (tie.spec
+    variables-requires
+    clauses-requires
+    wide-requires
+    sub-c
+    checks-at-requires
+    add-count
+    scan-at-requires
+    enum-known-position
+    clause-start-requires
+    add-to
+    mul-to
+    shared-slice-read-to
+    take-out-requires
+    cast-set-watch
+    set-watch-requires
+    push-front-requires
+    add-checks-requires
+    enum-known-made
+    add-checks-requires-2
+    cast-session
+    add-session
+    slice-write-session
+    same-length
+    returns
+    slice-read-level
+    assign-requires
+    keep-requires
+    same-length-2
+    returns-2
+    same-length-3
+    returns-3)

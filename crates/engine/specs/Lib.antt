@@ -1,0 +1,3 @@
+-- The definitions of `engine`: what its exported functions cite; `Inner` serves private contracts only.
+pub mod Engine
+pub mod Inner

@@ -1,0 +1,6 @@
+-- The laws of `layout` that proofs cite.
+pub mod ChainLaws
+pub mod EncodeLaws
+pub mod HeldLaws
+pub mod TrailLaws
+pub mod ValueLaws

@@ -1,0 +1,2 @@
+-- The laws of src/copies.rt.
+pub mod Laws

@@ -1,0 +1,45 @@
+-- A sum and copies, as the loops over an index meet them.
+use Prim.Native.Nat.{ℕ, _+_, _*_, _≤_, _<_}
+use mathlib.Core.Path.{_≡_, ap, ap₂, sym, _∙_}
+use mathlib.Core.List.{List, _++_}
+use native.Mathlib.Numerals.{add-one}
+use native.Mathlib.Omega.{arith}
+use lib.ListN.{length, getD, take, drop, drop-of-length-le}
+use lib.Seq.{drop-cons, take-all}
+use Rattle.base.specs.Lists.{sum, copied}
+use Rattle.base.proofs.Copies.{Copied}
+
+-- the sum of the first i numbers, and of all
+pub record Summed (numbers : List ℕ) (s i : ℕ) : Type 0 where
+  pub within : i ≤ length numbers
+  pub rest : s + sum (drop i numbers) ≡ sum numbers
+  pub small : s ≤ 4294967295 * i
+
+pub summed-none : (numbers : List ℕ) → Summed numbers 0 0
+summed-none numbers = record { within = omega arith; rest = omega arith; small = omega arith }
+
+pub summed-more : (numbers : List ℕ) (s i n : ℕ) → Summed numbers s i → i < length numbers → n ≡ getD numbers i 0 → n ≤ 4294967295 → Summed numbers (s + n) (i + 1)
+unfolding sum
+summed-more numbers s i n r h e fits =
+    let here : sum (drop i numbers) ≡ getD numbers i 0 + sum (drop (i + 1) numbers) = rw (add-one i) (ap sum (drop-cons numbers i 0 h)) in
+    record { within = omega arith; rest = omega (arith, r .rest); small = omega (arith, r .small) }
+
+pub summed-all : (numbers : List ℕ) (s i : ℕ) → Summed numbers s i → length numbers ≤ i → s ≡ sum numbers
+unfolding sum
+summed-all numbers s i r h =
+    let none : sum (drop i numbers) ≡ 0 = ap sum (drop-of-length-le numbers h) in
+    omega (arith, r .rest)
+
+-- a copy that ends with the source, and one that ends with the room
+pub copied-all : (source before now : List ℕ) (i : ℕ) → Copied source before now i → length source ≤ i → now ≡ copied source before
+unfolding copied
+copied-all source before now i c h =
+    let is-all : i ≡ length source = omega (arith, c .in-source) in
+    c .is ∙ ap₂ (λ (x y : List ℕ). x ++ y) (take-all i source h ∙ sym (take-all (length before) source (omega (arith, c .in-target)))) (ap (λ (k : ℕ). drop k before) is-all)
+
+pub copied-full : (source before now : List ℕ) (i : ℕ) → Copied source before now i → length before ≤ i → now ≡ copied source before
+unfolding copied
+copied-full source before now i c h =
+    let is-full : i ≡ length before = omega (arith, c .in-target) in
+    let over : length before ≤ length source = omega (arith, c .in-source) in
+    c .is ∙ ap₂ (λ (x y : List ℕ). x ++ y) (ap (λ (k : ℕ). take k source) is-full) (drop-of-length-le before h ∙ sym (drop-of-length-le before over))

@@ -1,0 +1,2 @@
+-- The laws of src/cells.rt.
+pub mod Laws

@@ -1,0 +1,3 @@
+-- The laws of src/fixpoint.rt.
+pub mod HeightLaws
+pub mod Laws

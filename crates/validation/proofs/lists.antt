@@ -1,0 +1,3 @@
+-- The laws of src/lists.rt.
+pub mod GoodLaws
+pub mod Laws

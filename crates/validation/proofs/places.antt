@@ -1,0 +1,2 @@
+-- The laws of src/places.rt.
+pub mod Laws

@@ -1,0 +1,2 @@
+-- The laws of src/reasons.rt.
+pub mod Laws

@@ -1,0 +1,250 @@
+-- `session_passes` meets its contract: each early return answers a condition that fails, and the last answer decides. Assumes nothing.
+use Prim.Native.Nat.{ℕ, _-_, _≤_, _<_}
+use native.Mathlib.Omega.{arith}
+use mathlib.Core.Path.{_≡_, sym}
+use borrow.Author.Tests.{not-true, not-false}
+use lib.ListN.{length, getD}
+use Rattle.book.specs.Numbers.{formulaOf}
+use Rattle.book.proofs.WellFormedLaws.{well-formed-limited}
+use Rattle.run.specs.Run.{maxCount}
+use Rattle.layout.specs.Layout.{decisionsAt, conflictAt, requiredLength}
+use Rattle.validation.specs.Inner.Conflict.{AllFalse}
+use Rattle.validation.specs.Inner.Places.{TrailPassed}
+use Rattle.validation.proofs.SaysLaws.{says-test}
+use Rattle.validation.proofs.ValidateLaws.{Built, long-at, short-at, trail-to, trail-from, conflict-to, conflict-from, parts-pass, passes-parts, parts-fail}
+use Rattle.validation.proofs.session_passes.Statement.{statement}
+use Rattle.validation.proofs.session_passes.Tie as tie
+
+-- the start, from behind the tests of the length, the trail and the lists, and what lies between them
+abbrev start-1 : tie.Else1 → tie.Start
+start-1 c = c .before .before .before .before .before .before
+
+abbrev length-of : tie.After-shared-slice-known4 → tie.Else1
+length-of c = c .before .before .before .before
+
+abbrev start-4 : tie.Else4 → tie.Start
+start-4 c = start-1 (length-of (c .before .before .before))
+
+abbrev trail-of : tie.After-lists-pass → tie.Else4
+trail-of c = c .before .before .before .before .before
+
+abbrev start-7 : tie.Else7 → tie.Start
+start-7 c = start-4 (trail-of (c .before))
+
+abbrev conflict-of : tie.Else7 → tie.After-wide
+conflict-of c = trail-of (c .before) .before .before .before .before .before
+
+variables-requires : tie.Need-variables-requires
+variables-requires c κs = tt
+
+clauses-requires : tie.Need-clauses-requires
+clauses-requires c κs = tt
+
+required-requires : tie.Need-required-requires
+required-requires c κs = omega (arith, well-formed-limited _ (c .before .before .before .before .pre))
+
+returns : tie.Need-returns
+returns c =
+    let start = c .before .before .before .before .before .before in
+    parts-fail _ _ (start .pre)
+    (short-at (start .args .book .now) (start .args .session .now) _ (c .before .before .before .variables .ensures) _ (c .before .before .clauses .ensures)
+    (omega arith))
+
+-- the session is long enough
+enough : (c : tie.Else1) → requiredLength (formulaOf (start-1 c .args .book .now)) ≤ length (start-1 c .args .session .now)
+enough c =
+    let start = start-1 c in
+    long-at (start .args .book .now) (start .args .session .now) _ (c .before .before .before .variables .ensures) _ (c .before .before .clauses .ensures) (omega arith)
+
+shared-slice-read-wide : tie.Need-shared-slice-read-wide
+shared-slice-read-wide c = omega arith
+
+wide-requires : tie.Need-wide-requires
+wide-requires c κs = tt
+
+returns-2 : tie.Need-returns-2
+returns-2 c = parts-fail _ _ (start-1 (c .before .before .before) .pre) (λ p. omega (arith, p .built .conflict-within))
+
+shared-slice-read-if3 : tie.Need-shared-slice-read-if3
+shared-slice-read-if3 c = omega arith
+
+returns-3 : tie.Need-returns-3
+returns-3 c = parts-fail _ _ (start-1 (length-of (c .before)) .pre) (λ p. omega (arith, p .built .backtracks-within))
+
+trail-passes-requires : tie.Need-trail-passes-requires
+trail-passes-requires c κs =
+    let limited = well-formed-limited _ (start-1 (length-of (c .before)) .pre) in
+    (omega arith, record { few-variables = omega arith; long = omega arith })
+
+returns-4 : tie.Need-returns-4
+returns-4 c =
+    let long = length-of (c .before .before .before) in
+    let start = start-1 long in
+    parts-fail _ _ (start .pre)
+    (λ p.
+    c .before .trail-passes .ensures .no (not-true _ (c .if4 .taken))
+    (trail-from (start .args .book .now) (start .args .session .now) _ (long .before .before .before .variables .ensures) (p .built .trail)))
+
+-- the trail passed
+passed : (c : tie.Else4) → TrailPassed (start-4 c .args .book .now) (start-4 c .args .session .now)
+passed c =
+    let long = length-of (c .before .before .before) in
+    let start = start-4 c in
+    record {
+      well = start .pre;
+      long = enough long;
+      good =
+          trail-to (start .args .book .now) (start .args .session .now) _ (long .before .before .before .variables .ensures)
+          (c .before .trail-passes .ensures .yes (not-false _ (c .if4 .left)));
+    }
+
+justified-requires : tie.Need-justified-requires
+justified-requires c κs = passed c
+
+returns-5 : tie.Need-returns-5
+returns-5 c =
+    parts-fail _ _ (start-4 (c .before .before) .pre) (λ p. c .before .justified .ensures .no (not-true _ (c .if5 .taken)) (p .built .reasons))
+
+cells-pass-requires : tie.Need-cells-pass-requires
+cells-pass-requires c κs = (start-4 (c .before .before) .pre, passed (c .before .before) .long)
+
+returns-6 : tie.Need-returns-6
+returns-6 c =
+    parts-fail _ _ (start-4 (c .before .before .before .before) .pre) (λ p. c .before .cells-pass .ensures .no (not-true _ (c .if6 .taken)) (p .built .cells))
+
+lists-pass-requires : tie.Need-lists-pass-requires
+lists-pass-requires c κs =
+    let trail = c .before .before .before .before in
+    (start-4 trail .pre, passed trail .long, c .before .cells-pass .ensures .yes (not-false _ (c .if6 .left)))
+
+returns-7 : tie.Need-returns-7
+returns-7 c =
+    parts-fail _ _ (start-4 (trail-of (c .before)) .pre) (λ p. c .before .lists-pass .ensures .no (not-true _ (c .if7 .taken)) (p .built .lists))
+
+-- what holds in conflict and out of it
+built : (c : tie.Else7) → Built (start-7 c .args .book .now) (start-7 c .args .session .now)
+built c =
+    let trail = passed (trail-of (c .before)) in
+    record {
+      long = trail .long;
+      conflict-within = omega arith;
+      backtracks-within = omega arith;
+      trail = trail .good;
+      reasons = c .before .before .before .before .before .justified .ensures .yes (not-false _ (c .before .before .before .before .if5 .left));
+      cells = c .before .before .before .cells-pass .ensures .yes (not-false _ (c .before .before .if6 .left));
+      lists = c .before .lists-pass .ensures .yes (not-false _ (c .if7 .left));
+    }
+
+-- a number of the session is a 32-bit number
+small : (c : tie.Else7) (i : ℕ) → getD (start-7 c .args .session .now) i 0 ≤ maxCount
+small c i =
+    let long = length-of (trail-of (c .before) .before .before .before) in
+    omega (arith, long .before .before .before .before .shared-slice-known2 .given i)
+
+fixpoint-requires : tie.Need-fixpoint-requires
+fixpoint-requires c κs = (passed (trail-of (c .before .before)), built (c .before) .cells)
+
+returns-8 : tie.Need-returns-8
+returns-8 c =
+    let quiet = c .before .before in
+    let none : getD (start-7 quiet .args .session .now) conflictAt 0 ≡ 0 = omega arith in
+    says-test
+    (λ s.
+    parts-pass _ _ (start-7 quiet .pre)
+    (record { built = built quiet; quiet = λ _. s; conflict = λ some. absurd (omega arith); lower = λ some. absurd (omega arith) })
+    (small quiet))
+    (λ e. passes-parts _ _ (start-7 quiet .pre) e .quiet none)
+    (c .fixpoint .ensures)
+
+-- the name of the conflict clause is that of the header
+name-is : (c : tie.Else7) → conflict-of c .wide .result ≡ getD (start-7 c .args .session .now) conflictAt 0
+name-is c = conflict-of c .wide .ensures
+
+sub-conflict-false : tie.Need-sub-conflict-false
+sub-conflict-false c = omega arith
+
+conflict-false-requires : tie.Need-conflict-false-requires
+conflict-false-requires c κs = (passed (trail-of (c .before .before)), omega arith)
+
+returns-9 : tie.Need-returns-9
+returns-9 c =
+    let start = start-7 (c .before .before .before) in
+    let some : 0 < getD (start .args .session .now) conflictAt 0 = omega arith in
+    parts-fail _ _ (start .pre)
+    (λ p.
+    c .before .conflict-false .ensures .no (not-true _ (c .if9 .taken))
+    (conflict-from (start .args .book .now) (start .args .session .now) _ (name-is (c .before .before .before)) (p .conflict some)))
+
+-- the conflict clause is all false
+all-false : (c : tie.Else9) →
+    let start = start-7 (c .before .before .before) in
+    AllFalse (formulaOf (start .args .book .now)) (start .args .session .now) (getD (start .args .session .now) conflictAt 0 - 1)
+all-false c =
+    let start = start-7 (c .before .before .before) in
+    conflict-to (start .args .book .now) (start .args .session .now) _ (name-is (c .before .before .before))
+    (c .before .conflict-false .ensures .yes (not-false _ (c .if9 .left)))
+
+shared-slice-read-if10 : tie.Need-shared-slice-read-if10
+shared-slice-read-if10 c = omega arith
+
+returns-10 : tie.Need-returns-10
+returns-10 c =
+    let listed = c .before .before .before .before .before in
+    let some : 0 < getD (start-7 listed .args .session .now) conflictAt 0 = omega arith in
+    let none : getD (start-7 listed .args .session .now) decisionsAt 0 ≡ 0 = omega arith in
+    sym
+    (parts-pass _ _ (start-7 listed .pre)
+    (record {
+      built = built listed;
+      quiet = λ e. absurd (omega arith);
+      conflict = λ _. all-false (c .before .before);
+      lower = λ _ top. absurd (omega arith);
+    })
+    (small listed))
+
+fixpoint-requires-2 : tie.Need-fixpoint-requires-2
+fixpoint-requires-2 c κs = let listed = c .before .before .before .before .before in (passed (trail-of (listed .before)), built listed .cells)
+
+returns-11 : tie.Need-returns-11
+returns-11 c =
+    let listed = c .before .before .before .before .before .before in
+    let some : 0 < getD (start-7 listed .args .session .now) conflictAt 0 = omega arith in
+    let top : 0 < getD (start-7 listed .args .session .now) decisionsAt 0 = omega arith in
+    says-test
+    (λ s.
+    parts-pass _ _ (start-7 listed .pre)
+    (record { built = built listed; quiet = λ e. absurd (omega arith); conflict = λ _. all-false (c .before .before .before); lower = λ _ _. s })
+    (small listed))
+    (λ e. passes-parts _ _ (start-7 listed .pre) e .lower some top)
+    (c .fixpoint2 .ensures)
+
+pub session-passes-spec : {M : Type 1} → statement M
+session-passes-spec =
+    tie.close
+    (tie.spec
+    variables-requires
+    clauses-requires
+    required-requires
+    returns
+    shared-slice-read-wide
+    wide-requires
+    returns-2
+    shared-slice-read-if3
+    returns-3
+    trail-passes-requires
+    returns-4
+    justified-requires
+    returns-5
+    cells-pass-requires
+    returns-6
+    lists-pass-requires
+    returns-7
+    fixpoint-requires
+    returns-8
+    sub-conflict-false
+    conflict-false-requires
+    returns-9
+    shared-slice-read-if10
+    returns-10
+    fixpoint-requires-2
+    returns-11)

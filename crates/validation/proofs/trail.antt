@@ -1,0 +1,2 @@
+-- The laws of src/trail.rt.
+pub mod Laws

@@ -1,0 +1,14 @@
+-- What the contracts of src/conflict.rt cite: a clause all of whose literals are false.
+use Prim.Native.Nat.{ℕ}
+use mathlib.Core.Path.{_≡_}
+use mathlib.Core.Bool.{true}
+use mathlib.Core.List.{List}
+use Rattle.base.specs.Lists.{member}
+use Rattle.book.specs.Formula.{Formula}
+use Rattle.run.specs.Trail.{isFalse}
+use Rattle.run.specs.Run.{clauseOf}
+use Rattle.layout.specs.Layout.{held}
+
+-- every literal of a clause is false
+abbrev pub AllFalse : Formula → List ℕ → ℕ → Type 0
+AllFalse formula numbers c = (m : ℕ) → member m (clauseOf formula c) ≡ true → isFalse (held formula numbers .trail) m ≡ true

@@ -1,0 +1,28 @@
+-- What the contracts of src/places.rt cite, and of all that reads a trail that passed: when it may be read, and which trail it is.
+use Prim.Native.Nat.{ℕ, _≤_}
+use mathlib.Core.Path.{_≡_}
+use mathlib.Core.Bool.{Bool, true, cond}
+use mathlib.Core.List.{List}
+use lib.ListN.{length, getD}
+use Rattle.book.specs.Numbers.{variablesOf, formulaOf, wellFormed}
+use Rattle.run.specs.Trail.{Entry, lowered}
+use Rattle.layout.specs.Layout.{lengthAt, TrailFits, requiredLength, heldTrail}
+use Rattle.validation.specs.Inner.Trail.{TrailGood}
+
+-- numbers whose trail may be read
+pub record Readable (v : ℕ) (numbers : List ℕ) : Type 0 where
+  pub fits : TrailFits v numbers
+  pub good : TrailGood v numbers
+
+-- numbers of a well-formed book's length, whose trail passed
+pub record TrailPassed (book numbers : List ℕ) : Type 0 where
+  pub well : wellFormed book ≡ true
+  pub long : requiredLength (formulaOf book) ≤ length numbers
+  pub good : TrailGood (variablesOf book) numbers
+
+abbrev pub trailOf : ℕ → List ℕ → List Entry
+trailOf v numbers = heldTrail v numbers (getD numbers lengthAt 0)
+
+-- the trail, or the trail without its top level
+abbrev pub trailOn : ℕ → List ℕ → Bool → List Entry
+trailOn v numbers below = cond below (lowered (trailOf v numbers)) (trailOf v numbers)

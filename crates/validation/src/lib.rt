@@ -1,0 +1,79 @@
+// The validation (the paper's examination) of a lent session, on any numbers.
+mod cells;
+mod conflict;
+mod fixpoint;
+mod lists;
+mod places;
+mod reasons;
+mod trail;
+
+ghost use mathlib.Core.Path.{_≡_};
+ghost use mathlib.Core.Bool.{true};
+ghost use Rattle.book.specs.Numbers.{formulaOf, wellFormed};
+ghost use Rattle.validation.specs.Validation.{passes, readRefusal};
+use crate::cells::cells_pass;
+use crate::conflict::conflict_false;
+use crate::fixpoint::fixpoint;
+use crate::lists::lists_pass;
+use crate::reasons::justified;
+use crate::trail::trail_passes;
+use layout::limits::MAX_BACKTRACKS;
+use layout::offsets::BACKTRACKS;
+use layout::offsets::CONFLICT;
+use layout::offsets::DECISIONS;
+use layout::offsets::required;
+use layout::values::wide;
+
+// The numbers are those of a valid run: number 12 of the table is given exactly where this is false.
+fn session_passes(book: &[u32], session: &[u32]) -> bool
+    requires { ⌜ wellFormed (now book) ≡ true ⌝ }
+    ensures { λ r. ⌜ r ≡ passes (formulaOf (now (book .entry))) (now (session .entry)) ⌝ }
+{
+    let variables = book::variables(book);
+    let clauses = book::clauses(book);
+    if session.len() < required(variables, clauses) {
+        return false;
+    }
+    let conflict = wide(session[CONFLICT]);
+    if conflict > clauses {
+        return false;
+    }
+    if session[BACKTRACKS] > MAX_BACKTRACKS {
+        return false;
+    }
+    if !trail_passes(session, variables) {
+        return false;
+    }
+    if !justified(book, session) {
+        return false;
+    }
+    if !cells_pass(book, session) {
+        return false;
+    }
+    if !lists_pass(book, session) {
+        return false;
+    }
+    if conflict == 0 {
+        return fixpoint(book, session, false);
+    }
+    if !conflict_false(book, session, conflict - 1) {
+        return false;
+    }
+    if session[DECISIONS] == 0 {
+        return true;
+    }
+    fixpoint(book, session, true)
+}
+
+// The refusal number 11 or 12 of a session call, or 0.
+pub fn validate(book: &[u32], session: &[u32]) -> u32
+    ensures { λ r. ⌜ r ≡ readRefusal (now (book .entry)) (now (session .entry)) ⌝ }
+{
+    if !book::well_formed(book) {
+        return 11;
+    }
+    if !session_passes(book, session) {
+        return 12;
+    }
+    0
+}
