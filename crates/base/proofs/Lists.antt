@@ -1,14 +1,15 @@
 -- Laws of lists: places, parts, one element more, tests of every element, lists one after the other, the first number.
 use Prim.Native.Nat.{ℕ, zero, suc, _+_, _-_, _≤_, _<_}
+use native.Mathlib.Nat.{suc-sub-suc, sub-zero}
 use native.Mathlib.Omega.{arith}
 use mathlib.Core.Bool.{Bool, true, false, _&&_, and-true, and-assoc}
 use mathlib.Core.List.{List, [], _∷_, _++_, append-assoc, append-nil}
 use mathlib.Core.Logic.{_⊎_, inl, inr}
-use mathlib.Core.Path.{_≡_, refl, sym, _∙_}
+use mathlib.Core.Path.{_≡_, refl, sym, ap, _∙_}
 use borrow.Author.Tests.{eqb-true, eqb-false, eq-eqb, ne-eqb, ltb-true, ltb-false}
 use lib.Dec.{eqb, ltb}
 use lib.ListN.{length, getD, take, drop, set, replicate, length-append, length-drop, drop-of-length-le}
-use lib.Seq.{take-add, drop-cons, drop-drop, length-take-le, getD-set-same, getD-set-other, set-out}
+use lib.Seq.{take-add, take-nil, drop-cons, drop-drop, length-take-le, getD-set-same, getD-set-other, set-out}
 use Rattle.base.specs.Lists.{all, flat, empty, begins}
 use Rattle.base.proofs.Bools.{and-parts}
 
@@ -36,6 +37,12 @@ module _ {A : Type 0} where
 
   pub length-part : (s t : ℕ) (l : List A) → t ≤ length l → length (part s t l) ≡ t - s
   length-part s t l h = length-take-le (t - s) (drop s l) (rw length-drop (omega arith))
+
+  pub part-taken : (s t : ℕ) (l : List A) → s ≤ t → part s t l ≡ drop s (take t l)
+  part-taken zero t l h = ap (λ (k : ℕ). take k l) (sub-zero t)
+  part-taken (suc s) zero l h = absurd (omega arith)
+  part-taken (suc s) (suc t) [] h = take-nil (suc t - suc s)
+  part-taken (suc s) (suc t) (x ∷ l) h = ap (λ (k : ℕ). take k (drop s l)) (suc-sub-suc t s) ∙ part-taken s t l (omega arith)
 
   pub part-none : (s : ℕ) (l : List A) → part s s l ≡ []
   part-none s l =

@@ -50,10 +50,14 @@ module _ (numbers : List ℕ) where
       → part s e numbers ≡ clauseAt numbers c
   clause-between c s e begin end = rw (begin, end, add-one) (sym (clause-part c))
 
-  pub length-clauses : (c n : ℕ) → length (clausesFrom numbers c n) ≡ n
+  length-clauses : (c n : ℕ) → length (clausesFrom numbers c n) ≡ n
   unfolding clausesFrom
   length-clauses c zero = refl
   length-clauses c (suc n) = ap suc (length-clauses (suc c) n)
+
+  -- the formula of a book has C clauses
+  pub clauses-counted : length (formulaOf numbers .clauses) ≡ clausesOf numbers
+  clauses-counted = length-clauses 0 (clausesOf numbers)
 
   getD-clauses : (c n k : ℕ) → k < n → getD (clausesFrom numbers c n) k [] ≡ clauseAt numbers (c + k)
   unfolding clausesFrom
@@ -155,7 +159,7 @@ module _ (numbers : List ℕ) where
     pub numbers-parted : take (clausesOf numbers + literalsOf numbers + 4) numbers ≡ numbersOf (formulaOf numbers)
     unfolding numbersOf
     numbers-parted =
-        rw (whole, after, length-clauses 0 (clausesOf numbers), length-literals, starts-part, literals-part)
+        rw (whole, after, clauses-counted, length-literals, starts-part, literals-part)
       where
         behind : clausesOf numbers + literalsOf numbers + 4 ≡ 3 + (suc (clausesOf numbers) + literalsOf numbers)
         behind = omega arith

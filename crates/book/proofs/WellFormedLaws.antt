@@ -13,7 +13,7 @@ use Rattle.book.specs.Formula.{soundClause, sound, maxClauses, maxLitera
 use Rattle.book.specs.Numbers.{variablesOf, clausesOf, literalsOf, startOf, clauseAt, clausesFrom, formulaOf, numbersOf, rising, wellFormed}
 use Rattle.book.specs.Inner.Form.{Parted}
 use Rattle.book.proofs.SoundLaws.{formula-parts, clauses-decide-sound, clause-of-sound}
-use Rattle.book.proofs.PartLaws.{length-clauses, clause-of-formula, length-literals, numbers-parted}
+use Rattle.book.proofs.PartLaws.{clauses-counted, clause-of-formula, length-literals, numbers-parted}
 
 -- V, C and L within their limits
 pub record Limited (numbers : List ℕ) : Type 0 where
@@ -29,7 +29,7 @@ module _ (numbers : List ℕ) where
   unfolding wellFormed
   clauses-decide parted limited =
       let few : length (clausesFrom numbers 0 (clausesOf numbers)) ≤ maxClauses =
-      rw (length-clauses numbers 0 (clausesOf numbers)) (limited .clauses) in
+      rw (clauses-counted numbers) (limited .clauses) in
       let short : length (flat (clausesFrom numbers 0 (clausesOf numbers))) ≤ maxLiterals =
       rw (length-literals numbers parted) (limited .literals) in
       and-last
@@ -75,7 +75,7 @@ module _ (numbers : List ℕ) where
         record {
           some-variables = parts .some-variable;
           variables = parts .few-variables;
-          clauses = omega (arith, length-clauses numbers 0 (clausesOf numbers), parts .few-clauses);
+          clauses = omega (arith, clauses-counted numbers, parts .few-clauses);
           literals = omega (arith, length-literals numbers well-formed-parted, parts .few-literals);
         }
 
@@ -83,7 +83,7 @@ module _ (numbers : List ℕ) where
     pub well-formed-clause : (c : ℕ) → c < clausesOf numbers → soundClause (variablesOf numbers) (clauseAt numbers c) ≡ true
     well-formed-clause c h =
         rw (clause-of-formula numbers c h) at
-        (clause-of-sound (formulaOf numbers) well-formed-sound c (omega (arith, length-clauses numbers 0 (clausesOf numbers))))
+        (clause-of-sound (formulaOf numbers) well-formed-sound c (omega (arith, clauses-counted numbers)))
 
     -- well-formed numbers up to C + L + 4 are those of the formula that they hold
     pub well-formed-numbers : take (clausesOf numbers + literalsOf numbers + 4) numbers ≡ numbersOf (formulaOf numbers)

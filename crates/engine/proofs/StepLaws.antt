@@ -9,7 +9,7 @@ use lib.ListN.{length, getD, set, drop, length-set, length-drop}
 use lib.Seq.{getD-set-same, getD-set-other, getD-drop, drop-set-lt, ext-getD}
 use Rattle.base.proofs.Bools.{never}
 use Rattle.book.specs.Formula.{Formula, variableOf}
-use Rattle.book.specs.Numbers.{variablesOf, formulaOf}
+use Rattle.book.specs.Numbers.{variablesOf, clausesOf, formulaOf}
 use Rattle.run.specs.Trail.{Entry, opposite, cut}
 use Rattle.run.specs.Run.{Run, onTrail, withConflict, propagate, decide, backtrack}
 use Rattle.run.specs.Calls.{decideRefusal, backtrackRefusal, maxBacktracks}
@@ -185,7 +185,7 @@ module _ {book numbers : List ℕ} (at : Holding book numbers) (l : ℕ) (accept
         (record {
           encodes = b .encodes;
           same-length = b .same-length ∙ beside .same-length;
-          same-behind = b .same-behind ∙ beside-behind beside (requiredLength (formulaOf book)) (omega arith);
+          same-behind = b .same-behind ∙ beside-behind beside (requiredLength (variablesOf book) (clausesOf book)) (omega arith);
         })
 
 -- The numbers after an accepted backtrack.
@@ -229,7 +229,7 @@ module _ {book numbers : List ℕ} (at : Holding book numbers) (k : ℕ) (accept
           encodes = cut-encodes (getD (set after conflictAt 0) backtracksAt 0 + 1) (let z = count-same in omega arith);
           same-length = simp length-set (beside-cut .same-length);
           same-behind =
-              drop-set-lt (requiredLength (formulaOf book)) (set after conflictAt 0) 3 (getD (set after conflictAt 0) backtracksAt 0 + 1) (omega arith)
-              ∙ drop-set-lt (requiredLength (formulaOf book)) after 2 0 (omega arith)
-              ∙ beside-behind beside-cut (requiredLength (formulaOf book)) (omega arith);
+              drop-set-lt (requiredLength (variablesOf book) (clausesOf book)) (set after conflictAt 0) 3 (getD (set after conflictAt 0) backtracksAt 0 + 1) (omega arith)
+              ∙ drop-set-lt (requiredLength (variablesOf book) (clausesOf book)) after 2 0 (omega arith)
+              ∙ beside-behind beside-cut (requiredLength (variablesOf book) (clausesOf book)) (omega arith);
         }

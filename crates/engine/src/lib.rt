@@ -7,11 +7,8 @@ mod trail;
 mod visit;
 
 ghost use mathlib.Core.Path.{_≡_};
-ghost use mathlib.Core.Bool.{true};
-ghost use Prim.Native.Nat.{_≤_};
-ghost use lib.ListN.{length};
-ghost use Rattle.book.specs.Numbers.{formulaOf, wellFormed};
-ghost use Rattle.layout.specs.Layout.{requiredLength};
+ghost use Rattle.book.specs.Numbers.{formulaOf};
+ghost use Rattle.layout.specs.Layout.{SessionFits};
 ghost use Rattle.engine.specs.Engine.{Becomes, Holding};
 ghost use Rattle.run.specs.Run.{decide, backtrack};
 ghost use Rattle.run.specs.Calls.{decideRefusal, backtrackRefusal};
@@ -23,17 +20,17 @@ use layout::offsets::BACKTRACKS;
 use layout::offsets::CONFLICT;
 use layout::offsets::DECISIONS;
 use layout::offsets::LENGTH;
-use layout::offsets::required;
+use layout::offsets::required_length;
 use layout::values::wide;
 
 // Opens a session, whatever its numbers were.
 pub fn open(book: &[u32], session: &mut [u32])
-    requires { ⌜ (wellFormed (now book) ≡ true) × (requiredLength (formulaOf (now book)) ≤ length (now session)) ⌝ }
+    requires { ⌜ SessionFits (now book) (now session) ⌝ }
     ensures { λ r. ⌜ Becomes (now (book .entry)) (now (session .entry)) (now (session .exit)) (runs.openRun (formulaOf (now (book .entry)))) ⌝ }
 {
     opening::clear(
         session,
-        required(book::variables(book), book::clauses(book)),
+        required_length(book::variables(book), book::clauses(book)),
     );
     opening::watch_all(book, session);
     opening::assign_units(book, session);

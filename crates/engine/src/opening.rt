@@ -3,8 +3,8 @@ ghost use mathlib.Core.Path.{_≡_};
 ghost use mathlib.Core.Bool.{true};
 ghost use Prim.Native.Nat.{ℕ, _≤_, _<_};
 ghost use lib.ListN.{length, getD};
-ghost use Rattle.book.specs.Numbers.{clausesOf, formulaOf, wellFormed};
-ghost use Rattle.layout.specs.Layout.{requiredLength};
+ghost use Rattle.book.specs.Numbers.{variablesOf, clausesOf, formulaOf, wellFormed};
+ghost use Rattle.layout.specs.Layout.{SessionFits, requiredLength};
 ghost use Rattle.layout.specs.Encodes.{Encodes};
 ghost use Rattle.engine.specs.Engine.{Becomes};
 ghost use Rattle.engine.specs.Inner.Opening.{Cleared, WatchedFirst, Units, UnitDone};
@@ -31,7 +31,7 @@ pub(crate) fn clear(session: &mut [u32], count: usize)
 
 // A clause of two literals or more watches positions 0 and 1, and its pointer is 1.
 fn watch_clause(book: &[u32], session: &mut [u32], c: usize)
-    requires { ⌜ (wellFormed (now book) ≡ true) × (requiredLength (formulaOf (now book)) ≤ length (now session)) × (c < clausesOf (now book)) ⌝ }
+    requires { ⌜ SessionFits (now book) (now session) × (c < clausesOf (now book)) ⌝ }
     ensures { λ r. ⌜ WatchedFirst (now (book .entry)) (now (session .entry)) (now (session .exit)) c ⌝ }
 {
     let variables = book::variables(book);
@@ -49,7 +49,7 @@ fn watch_clause(book: &[u32], session: &mut [u32], c: usize)
 
 // The first watches of all clauses, in book order.
 pub(crate) fn watch_all(book: &[u32], session: &mut [u32])
-    requires { ⌜ (wellFormed (now book) ≡ true) × (requiredLength (formulaOf (now book)) ≤ length (now session)) × ((i : ℕ) → i < requiredLength (formulaOf (now book)) → getD (now session) i 0 ≡ 0) ⌝ }
+    requires { ⌜ SessionFits (now book) (now session) × ((i : ℕ) → i < requiredLength (variablesOf (now book)) (clausesOf (now book)) → getD (now session) i 0 ≡ 0) ⌝ }
     ensures { λ r. ⌜ Becomes (now (book .entry)) (now (session .entry)) (now (session .exit)) (runs.fresh (formulaOf (now (book .entry)))) ⌝ }
 {
     let clauses = book::clauses(book);

@@ -20,7 +20,7 @@ use Rattle.book.proofs.SoundLaws.{literal-parts}
 use Rattle.run.specs.Progress.{Watched}
 use Rattle.run.proofs.WatchLists.{listed-size, listed-once}
 use Rattle.run.proofs.Propagation.{valid-structure}
-use Rattle.layout.specs.Layout.{trailAt, levelsAt, valuesAt, headsAt, watchesAt, pointersAt, linksAt, checksAt, required, requiredLength, valueNumber, levelNumber, watchLiteral, nodeOf, headNumber, linkNumber, watchNumber, encode, headSlot, linkSlot}
+use Rattle.layout.specs.Layout.{trailAt, levelsAt, valuesAt, headsAt, watchesAt, pointersAt, linksAt, checksAt, requiredLength, valueNumber, levelNumber, watchLiteral, nodeOf, headNumber, linkNumber, watchNumber, encode, headSlot, linkSlot}
 use Rattle.layout.specs.Encodes.{Chain, nodesOf, Encodes}
 use Rattle.base.proofs.Tables.{length-table, length-table-append, part-table, table-part, table-joined, table-split}
 use Rattle.layout.proofs.ChainLaws.{node-positive, node-within, AtNode, at-node, node-link, chain-head, chain-link, chain-built}
@@ -68,7 +68,7 @@ module _ (formula : Formula) (run : Run) where
   unfolding encode table
   encode-parts = refl
 
-  pub length-encode : length (encode formula run) ≡ requiredLength formula
+  pub length-encode : length (encode formula run) ≡ requiredLength (formula .variables) (length (formula .clauses))
   length-encode =
       ap length encode-parts
       ∙ length-table-append 4 (headerNumber run) fromTrail (v + (v + (v + (2 * c + (c + (c + (2 * v + 2 * c)))))))
@@ -98,16 +98,16 @@ record Parts (formula : Formula) (numbers : List ℕ) (run : Run) : Type 0 where
       → getD numbers (linksAt (formula .variables) (length (formula .clauses)) + i) 0 ≡ linkNumber formula (run .cells) (run .lists) (suc i)
 
 -- they make up the encoding, and the encoding has them
-module _ (formula : Formula) (run : Run) (numbers : List ℕ) (long : requiredLength formula ≤ length numbers) where
+module _ (formula : Formula) (run : Run) (numbers : List ℕ) (long : requiredLength (formula .variables) (length (formula .clauses)) ≤ length numbers) where
   abbrev vs : ℕ
   vs = formula .variables
 
   abbrev cs : ℕ
   cs = length (formula .clauses)
 
-  parts-encode : Parts formula numbers run → take (requiredLength formula) numbers ≡ encode formula run
+  parts-encode : Parts formula numbers run → take (requiredLength (formula .variables) (length (formula .clauses))) numbers ≡ encode formula run
   parts-encode p =
-      table-joined numbers 0 4 (5 * vs + 6 * cs) (required vs cs) trailAt (headerNumber run) (fromTrail formula run) (omega arith) (omega arith) (omega arith) (p .header)
+      table-joined numbers 0 4 (5 * vs + 6 * cs) (requiredLength vs cs) trailAt (headerNumber run) (fromTrail formula run) (omega arith) (omega arith) (omega arith) (p .header)
       (table-joined numbers trailAt vs (4 * vs + 6 * cs) (5 * vs + 6 * cs) (levelsAt vs) _ (fromLevels formula run) (omega arith) (omega arith) (omega arith) (p .literals)
       (table-joined numbers (levelsAt vs) vs (3 * vs + 6 * cs) (4 * vs + 6 * cs) (valuesAt vs) _ (fromValues formula run) (omega arith) (omega arith) (omega arith) (p .levels)
       (table-joined numbers (valuesAt vs) vs (2 * vs + 6 * cs) (3 * vs + 6 * cs) (watchesAt vs) _ (fromWatches formula run) (omega arith) (omega arith) (omega arith) (p .values)
@@ -118,9 +118,9 @@ module _ (formula : Formula) (run : Run) (numbers : List ℕ) (long : requiredLe
       (part-table numbers (linksAt vs cs) (2 * cs) (omega arith) _ (p .links)))))))))
       ∙ sym (encode-parts formula run)
 
-  encode-has : take (requiredLength formula) numbers ≡ encode formula run → Parts formula numbers run
+  encode-has : take (requiredLength (formula .variables) (length (formula .clauses))) numbers ≡ encode formula run → Parts formula numbers run
   encode-has e =
-      let a = table-split numbers 0 4 (5 * vs + 6 * cs) (required vs cs) trailAt (headerNumber run) (fromTrail formula run) (omega arith) (omega arith) (omega arith) (e ∙ encode-parts formula run) in
+      let a = table-split numbers 0 4 (5 * vs + 6 * cs) (requiredLength vs cs) trailAt (headerNumber run) (fromTrail formula run) (omega arith) (omega arith) (omega arith) (e ∙ encode-parts formula run) in
       let b = table-split numbers trailAt vs (4 * vs + 6 * cs) (5 * vs + 6 * cs) (levelsAt vs) _ (fromLevels formula run) (omega arith) (omega arith) (omega arith) (a .1) in
       let d = table-split numbers (levelsAt vs) vs (3 * vs + 6 * cs) (4 * vs + 6 * cs) (valuesAt vs) _ (fromValues formula run) (omega arith) (omega arith) (omega arith) (b .1) in
       let f = table-split numbers (valuesAt vs) vs (2 * vs + 6 * cs) (3 * vs + 6 * cs) (watchesAt vs) _ (fromWatches formula run) (omega arith) (omega arith) (omega arith) (d .1) in
@@ -228,7 +228,7 @@ module _ (formula : Formula) (s : sound formula ≡ true) (run : Run) (w : Watch
           ∙ sym (node-link formula s (run .cells) (run .lists) w (watchLiteral formula (run .cells) (suc i)) ((suc i - 1) / 2) (node .stands-there))
           ∙ ap (linkNumber formula (run .cells) (run .lists)) (node .is-node)
 
-  parts-encodes : requiredLength formula ≤ length numbers → Parts formula numbers run → Encodes formula numbers run
+  parts-encodes : requiredLength (formula .variables) (length (formula .clauses)) ≤ length numbers → Parts formula numbers run → Encodes formula numbers run
   unfolding headNumber
   parts-encodes long p =
       record {
@@ -287,25 +287,25 @@ module _ (formula : Formula) (s : sound formula ≡ true) (run : Run) (w : Watch
           ∙ node-link formula s (run .cells) (run .lists) w l c h)
 
   -- The front part of numbers that hold a run is its encoding, and numbers with that front part hold it.
-  pub watched-encode : Encodes formula numbers run → take (requiredLength formula) numbers ≡ encode formula run
+  pub watched-encode : Encodes formula numbers run → take (requiredLength (formula .variables) (length (formula .clauses))) numbers ≡ encode formula run
   watched-encode e = parts-encode formula run numbers (e .long) (encodes-parts e)
 
-  pub watched-encodes : requiredLength formula ≤ length numbers → take (requiredLength formula) numbers ≡ encode formula run
+  pub watched-encodes : requiredLength (formula .variables) (length (formula .clauses)) ≤ length numbers → take (requiredLength (formula .variables) (length (formula .clauses))) numbers ≡ encode formula run
       → Encodes formula numbers run
   watched-encodes long e = parts-encodes long (encode-has formula run numbers long e)
 
 -- the same of a valid run
 module _ (formula : Formula) (s : sound formula ≡ true) (run : Run) (valid : Valid formula run) where
-  pub encodes-encode : (numbers : List ℕ) → Encodes formula numbers run → take (requiredLength formula) numbers ≡ encode formula run
+  pub encodes-encode : (numbers : List ℕ) → Encodes formula numbers run → take (requiredLength (formula .variables) (length (formula .clauses))) numbers ≡ encode formula run
   encodes-encode numbers = watched-encode formula s run (valid-structure valid .watched) numbers
 
   -- all of the numbers: the encoding, and what lies behind it
-  pub encodes-whole : (numbers : List ℕ) → Encodes formula numbers run → numbers ≡ encode formula run ++ drop (requiredLength formula) numbers
+  pub encodes-whole : (numbers : List ℕ) → Encodes formula numbers run → numbers ≡ encode formula run ++ drop (requiredLength (formula .variables) (length (formula .clauses))) numbers
   encodes-whole numbers e =
-      sym (take-append-drop (requiredLength formula) numbers)
-      ∙ ap (λ (front : List ℕ). front ++ drop (requiredLength formula) numbers) (encodes-encode numbers e)
+      sym (take-append-drop (requiredLength (formula .variables) (length (formula .clauses))) numbers)
+      ∙ ap (λ (front : List ℕ). front ++ drop (requiredLength (formula .variables) (length (formula .clauses))) numbers) (encodes-encode numbers e)
 
-  pub encoded-encodes : (numbers : List ℕ) → requiredLength formula ≤ length numbers → take (requiredLength formula) numbers ≡ encode formula run
+  pub encoded-encodes : (numbers : List ℕ) → requiredLength (formula .variables) (length (formula .clauses)) ≤ length numbers → take (requiredLength (formula .variables) (length (formula .clauses))) numbers ≡ encode formula run
       → Encodes formula numbers run
   encoded-encodes numbers = watched-encodes formula s run (valid-structure valid .watched) numbers
 
@@ -313,4 +313,4 @@ module _ (formula : Formula) (s : sound formula ≡ true) (run : Run) (valid : V
   encode-encodes rest =
       encoded-encodes (encode formula run ++ rest)
       (rw (length-append (encode formula run) rest, length-encode formula run) (omega arith))
-      (take-at (encode formula run) rest (requiredLength formula) (length-encode formula run))
+      (take-at (encode formula run) rest (requiredLength (formula .variables) (length (formula .clauses))) (length-encode formula run))

@@ -39,7 +39,7 @@ pub record WatchesHeld (formula : Formula) (numbers : List ℕ) (cells : List Ce
   pub in-lists : ListsHeld formula numbers cells lists
 
 pub record Encodes (formula : Formula) (numbers : List ℕ) (run : Run) : Type 0 where
-  pub long : requiredLength formula ≤ length numbers
+  pub long : requiredLength (formula .variables) (length (formula .clauses)) ≤ length numbers
   pub trail : TrailHeld (formula .variables) numbers (run .trail)
   pub conflict : getD numbers conflictAt 0 ≡ run .conflict
   pub backtracks : getD numbers backtracksAt 0 ≡ run .backtracks

@@ -1,11 +1,13 @@
 -- The session numbers: where each part lies, the numbers of a run, and the run that numbers hold. docs/LAYOUT.md shows the same table.
 use Prim.Native.Nat.{ℕ, zero, suc, _+_, _*_, _-_, _/_, _%_, _≤_}
-use mathlib.Core.Bool.{cond, not}
+use mathlib.Core.Bool.{true, cond, not}
 use mathlib.Core.List.{List, [], _∷_, _++_}
+use mathlib.Core.Path.{_≡_}
 use lib.Dec.{leb, eqb}
 use lib.ListN.{length, getD, take, drop}
 use Rattle.base.specs.Lists.{table}
 use Rattle.book.specs.Formula.{Formula, variableOf, positive, negative, maxVariables, maxClauses}
+use Rattle.book.specs.Numbers.{variablesOf, clausesOf, wellFormed}
 use Rattle.run.specs.Trail.{Entry, place, literalAt, isTrue, decisions, level}
 use Rattle.run.specs.Scan.{Cell}
 use Rattle.run.specs.Run.{cellAt, Run, clauseOf, size, listOf}
@@ -60,21 +62,23 @@ abbrev pub linkSlot : ℕ → ℕ → ℕ → ℕ
 linkSlot v c node = linksAt v c + (node - 1)
 
 -- the required length (the paper's need)
-abbrev pub required : ℕ → ℕ → ℕ
-required v c = trailAt + 5 * v + 6 * c
-
-abbrev pub requiredLength : Formula → ℕ
-requiredLength formula = required (formula .variables) (length (formula .clauses))
+abbrev pub requiredLength : ℕ → ℕ → ℕ
+requiredLength v c = trailAt + 5 * v + 6 * c
 
 -- few variables, few clauses, and numbers that are long enough; where only the trail's parts are looked at, up to their end
 pub record Fits (v c : ℕ) (numbers : List ℕ) : Type 0 where
   pub few-variables : v ≤ maxVariables
   pub few-clauses : c ≤ maxClauses
-  pub long : required v c ≤ length numbers
+  pub long : requiredLength v c ≤ length numbers
 
 pub record TrailFits (v : ℕ) (numbers : List ℕ) : Type 0 where
   pub few-variables : v ≤ maxVariables
   pub long : watchesAt v ≤ length numbers
+
+-- a well-formed book, and numbers that are long enough for a session on it
+pub record SessionFits (book numbers : List ℕ) : Type 0 where
+  pub well : wellFormed book ≡ true
+  pub long : requiredLength (variablesOf book) (clausesOf book) ≤ length numbers
 
 -- The value of a variable: 0 where it is open, else twice the place of its literal on the trail, plus 1 if that is negative.
 unfoldable pub valueNumber : List Entry → ℕ → ℕ

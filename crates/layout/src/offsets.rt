@@ -2,7 +2,7 @@
 ghost use mathlib.Core.Path.{_≡_};
 ghost use Prim.Native.Nat.{_≤_};
 ghost use Rattle.book.specs.Formula.{maxVariables, maxClauses};
-ghost use Rattle.layout.specs.Layout.{levelsAt, valuesAt, watchesAt, pointersAt, checksAt, headsAt, linksAt, required, valueSlot, headSlot, linkSlot};
+ghost use Rattle.layout.specs.Layout.{levelsAt, valuesAt, watchesAt, pointersAt, checksAt, headsAt, linksAt, requiredLength, valueSlot, headSlot, linkSlot};
 use crate::values::wide;
 use book::limits::MAX_CLAUSES;
 use book::limits::MAX_VARIABLES;
@@ -93,9 +93,9 @@ pub fn link_slot(variables: usize, clauses: usize, node: u32) -> usize
 }
 
 // The required length (the paper's need).
-pub fn required(variables: usize, clauses: usize) -> usize
+pub fn required_length(variables: usize, clauses: usize) -> usize
     requires { ⌜ (variables ≤ maxVariables) × (clauses ≤ maxClauses) ⌝ }
-    ensures { λ r. ⌜ r ≡ required variables clauses ⌝ }
+    ensures { λ r. ⌜ r ≡ requiredLength variables clauses ⌝ }
 {
     TRAIL + 5 * variables + 6 * clauses
 }

@@ -114,7 +114,7 @@ pub fn figures(answer: Shown) -> u32 {
     }
 }
 
-pub fn required(answer: Count) -> u32 {
+pub fn required_length(answer: Count) -> u32 {
     match answer {
         Count::Of(n) => {
             say(messages::REQUIRED, n);

@@ -35,7 +35,7 @@ pub fn read(book: &[u32], session: &[u32], step: usize, a: u32, b: u32) -> u32 {
         names::LOOKUP => answers::assigned(a, session::lookup(book, session, a)),
         names::FIGURES => answers::figures(session::figures(book, session)),
         names::TOTAL => answers::sum(session::total(book, session)),
-        names::REQUIRED => answers::required(session::required_length(book)),
+        names::REQUIRED => answers::required_length(session::required_length(book)),
         names::EACH => copy_to(book, session, step, 0, wide(a)),
         names::TRAIL => copy_to(book, session, step, a, wide(b)),
         names::FORM => answers::form(book::well_formed(book)),

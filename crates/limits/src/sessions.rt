@@ -1,7 +1,7 @@
 // Trials of sessions: the steps of a row are taken one by one on one book and one lent part.
 use crate::steps::take;
 use book::limits::MAX_BOOK;
-use trials::damage::required;
+use trials::damage::required_length;
 use trials::readings::book_of;
 use trials::readings::damage_field;
 use trials::rows::find;
@@ -41,7 +41,7 @@ fn take_fields(book: &mut [u32], session: &mut [u32; SPACE], row: &[u8]) {
 
 // The steps in field 3 of the row with the book, then those of a row on it. The numbers behind the required length must not change.
 fn on_book(book: &mut [u32], session: &mut [u32; SPACE], source: &[u8], row: &[u8]) {
-    let length = required(book);
+    let length = required_length(book);
     take_field(book, session, source, 3);
     take_fields(book, session, row);
     untouched(session, length);

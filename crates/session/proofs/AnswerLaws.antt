@@ -11,7 +11,7 @@ use native.Mathlib.Omega.{arith}
 use borrow.Author.Tests.{eq-eqb, ne-eqb, le-leb, lt-leb}
 use lib.Dec.{leb}
 use lib.ListN.{length, getD, length-append}
-use Rattle.book.specs.Numbers.{formulaOf, variablesOf}
+use Rattle.book.specs.Numbers.{formulaOf, variablesOf, clausesOf}
 use Rattle.book.proofs.WellFormedLaws.{well-formed-sound}
 use Rattle.run.specs.Trail.{opposite, isTrue, isFalse, decisions}
 use Rattle.run.specs.Run.{Run, decide, backtrack}
@@ -201,7 +201,7 @@ module _ (book session : List ℕ) where
     pub decide-room : getD session lengthAt 0 ≤ maxVariables
     decide-room = count-within book session decide-none
 
-    pub decide-long : requiredLength (formulaOf book) ≤ length session
+    pub decide-long : requiredLength (variablesOf book) (clausesOf book) ≤ length session
     decide-long = long book session decide-none
 
   module _ (k : ℕ) (accepted : 0 ≡ sessionBacktrackRefusal book session k) where

@@ -9,13 +9,13 @@ use lib.Dec.{ltb, eqb}
 use lib.ListN.{length, drop}
 use lib.Seq.{drop-at}
 use Rattle.book.specs.Formula.{Formula}
-use Rattle.book.specs.Numbers.{wellFormed, formulaOf}
+use Rattle.book.specs.Numbers.{variablesOf, clausesOf, wellFormed, formulaOf}
 use Rattle.book.proofs.WellFormedLaws.{well-formed-sound}
 use Rattle.run.specs.Run.{Run, openRun, decide, backtrack}
 use Rattle.run.specs.Calls.{Call, decision, backtrackBy, decideRefusal, backtrackRefusal, refusal, performCall, step, stepAll, reference}
 use Rattle.run.specs.Valid.{Valid}
 use Rattle.run.proofs.Theorems.{open-valid, step-valid}
-use Rattle.layout.specs.Layout.{requiredLength, encode, held}
+use Rattle.layout.specs.Layout.{SessionFits, requiredLength, encode, held}
 use Rattle.validation.specs.Validation.{passes, callRefusal}
 use Rattle.session.specs.Outcomes.{overwritten, openRefusal, openNumbers, sessionDecideRefusal, decideNumbers, sessionBacktrackRefusal, backtrackNumbers, callNumbers, playedNumbers, replayNumbers}
 use Rattle.layout.proofs.EncodeLaws.{length-encode}
@@ -27,16 +27,16 @@ pub overwritten-again : (formula : Formula) (old new : Run) (buffer : List ℕ) 
 unfolding overwritten
 overwritten-again formula old new buffer =
     ap (λ (rest : List ℕ). encode formula new ++ rest)
-    (drop-at (encode formula old) (drop (requiredLength formula) buffer) (requiredLength formula) (length-encode formula old))
+    (drop-at (encode formula old) (drop (requiredLength (formula .variables) (length (formula .clauses))) buffer) (requiredLength (formula .variables) (length (formula .clauses))) (length-encode formula old))
 
 module _ (book buffer : List ℕ) (well : wellFormed book ≡ true) (run : Run) (valid : Valid (formulaOf book) run) where
   pub held-overwritten : held (formulaOf book) (overwritten (formulaOf book) run buffer) ≡ run
   unfolding overwritten
-  held-overwritten = held-encode (formulaOf book) (well-formed-sound book well) run valid (drop (requiredLength (formulaOf book)) buffer)
+  held-overwritten = held-encode (formulaOf book) (well-formed-sound book well) run valid (drop (requiredLength (variablesOf book) (length (formulaOf book .clauses))) buffer)
 
   pub passes-overwritten : passes (formulaOf book) (overwritten (formulaOf book) run buffer) ≡ true
   unfolding overwritten
-  passes-overwritten = passes-encode (formulaOf book) (well-formed-sound book well) run valid (drop (requiredLength (formulaOf book)) buffer)
+  passes-overwritten = passes-encode (formulaOf book) (well-formed-sound book well) run valid (drop (requiredLength (variablesOf book) (length (formulaOf book .clauses))) buffer)
 
   -- a call is refused by what the run itself says
   pub call-refusal : (own : Run → ℕ) → callRefusal book (overwritten (formulaOf book) run buffer) own ≡ own run
@@ -68,19 +68,19 @@ played book buffer well (call ∷ calls) run valid =
     (played book buffer well calls (step (formulaOf book) run call) (step-valid (formulaOf book) run (well-formed-sound book well) call valid))
 
 -- what an accepted opening says
-pub open-accepted : (book : List ℕ) (room : ℕ) → openRefusal book room ≡ 0 → (wellFormed book ≡ true) × (requiredLength (formulaOf book) ≤ room)
+pub open-accepted : (book buffer : List ℕ) → openRefusal book (length buffer) ≡ 0 → SessionFits book buffer
 unfolding openRefusal
-open-accepted book room e = go (wellFormed book) (ltb room (requiredLength (formulaOf book))) refl refl e
+open-accepted book buffer e = go (wellFormed book) (ltb (length buffer) (requiredLength (variablesOf book) (clausesOf book))) refl refl e
   where
-    go : (w t : Bool) → wellFormed book ≡ w → ltb room (requiredLength (formulaOf book)) ≡ t → _≡_ {A = ℕ} (cond w (cond t 10 0) 11) 0
-        → (wellFormed book ≡ true) × (requiredLength (formulaOf book) ≤ room)
+    go : (w t : Bool) → wellFormed book ≡ w → ltb (length buffer) (requiredLength (variablesOf book) (clausesOf book)) ≡ t
+        → _≡_ {A = ℕ} (cond w (cond t 10 0) 11) 0 → SessionFits book buffer
     go true true p q z = absurd (omega arith)
-    go true false p q z = (p, ltb-false room (requiredLength (formulaOf book)) q)
+    go true false p q z = record { well = p; long = ltb-false (length buffer) (requiredLength (variablesOf book) (clausesOf book)) q }
     go false t p q z = absurd (omega arith)
 
 pub replayed : (book buffer : List ℕ) (calls : List Call) → openRefusal book (length buffer) ≡ 0
     → replayNumbers book calls buffer ≡ overwritten (formulaOf book) (reference (formulaOf book) calls) buffer
 unfolding replayNumbers openNumbers reference
 replayed book buffer calls e =
-    let well : wellFormed book ≡ true = open-accepted book (length buffer) e .0 in
+    let well : wellFormed book ≡ true = open-accepted book buffer e .well in
     rw e (played book buffer well calls (openRun (formulaOf book)) (open-valid (formulaOf book) (well-formed-sound book well)))

@@ -1,5 +1,5 @@
 -- Opening and replay, way out by way out: the refusals in their order, and what an accepted one answers and leaves.
-use Rattle.layout.specs.Layout.{trailAt, required, requiredLength, encode}
+use Rattle.layout.specs.Layout.{trailAt, requiredLength, encode}
 use Rattle.book.specs.Formula.{Formula}
 use Prim.Native.Nat.{ℕ, _+_, _-_, _≤_, _<_}
 use mathlib.Core.Path.{_≡_, refl, ap, ap₂, sym, _∙_}
@@ -10,7 +10,7 @@ use borrow.Author.Tests.{ne-eqb, lt-ltb, le-ltb}
 use lib.Dec.{eqb}
 use lib.ListN.{length, drop, take-append-drop}
 use Rattle.book.specs.Numbers.{wellFormed, formulaOf, variablesOf, clausesOf}
-use Rattle.book.proofs.PartLaws.{length-clauses}
+use Rattle.book.proofs.PartLaws.{clauses-counted}
 use Rattle.book.proofs.WellFormedLaws.{well-formed-sound}
 use Rattle.run.specs.Run.{Run, openRun}
 use Rattle.run.specs.Calls.{Call, reference}
@@ -24,10 +24,6 @@ use Rattle.layout.proofs.EncodeLaws.{encodes-encode, encode-encodes}
 use Rattle.session.proofs.CallLaws.{open-accepted, replayed}
 use Rattle.session.specs.declared.Answer.the-variants as answer
 use Rattle.session.specs.declared.Count.the-variants as count
-
--- the length of a session, from the book
-pub required-is-length : (book : List ℕ) → required (variablesOf book) (clausesOf book) ≡ requiredLength (formulaOf book)
-required-is-length book = ap (required (variablesOf book)) (sym (length-clauses book 0 (clausesOf book)))
 
 -- the header answers for the run that the numbers hold
 pub head-answer : (formula : Formula) (numbers : List ℕ) (run : Run) (before : ℕ) → Encodes formula numbers run → headAnswer numbers before ≡ propagatedAnswer before run
@@ -43,11 +39,11 @@ pub becomes-overwritten : (book before now : List ℕ) (run : Run) → wellForme
     → now ≡ overwritten (formulaOf book) run before
 unfolding overwritten
 becomes-overwritten book before now run well valid b =
-    sym (take-append-drop (requiredLength (formulaOf book)) now)
-    ∙ ap₂ (λ (x y : List ℕ). x ++ y) (encodes-encode (formulaOf book) (well-formed-sound book well) run valid now (b .encodes)) (b .same-behind)
+    sym (take-append-drop (requiredLength (variablesOf book) (length (formulaOf book .clauses))) now)
+    ∙ ap₂ (λ (x y : List ℕ). x ++ y) (encodes-encode (formulaOf book) (well-formed-sound book well) run valid now (b .encodes)) (rw (clauses-counted book) (b .same-behind))
 
 overwritten-is : (book buffer : List ℕ) (calls : List Call) → openRefusal book (length buffer) ≡ 0
-    → replayNumbers book calls buffer ≡ encode (formulaOf book) (reference (formulaOf book) calls) ++ drop (requiredLength (formulaOf book)) buffer
+    → replayNumbers book calls buffer ≡ encode (formulaOf book) (reference (formulaOf book) calls) ++ drop (requiredLength (variablesOf book) (length (formulaOf book .clauses))) buffer
 unfolding overwritten
 overwritten-is book buffer calls e = replayed book buffer calls e
 
@@ -56,7 +52,7 @@ module _ (book buffer : List ℕ) where
   unfolding requiredAnswer
   required-eleven e = rw e
 
-  pub required-is : wellFormed book ≡ true → count.Of (requiredLength (formulaOf book)) ≡ requiredAnswer book
+  pub required-is : wellFormed book ≡ true → count.Of (requiredLength (variablesOf book) (clausesOf book)) ≡ requiredAnswer book
   unfolding requiredAnswer
   required-is e = rw e
 
@@ -64,13 +60,13 @@ module _ (book buffer : List ℕ) where
   unfolding openRefusal
   open-eleven room e = rw e
 
-  pub open-ten : (room : ℕ) → wellFormed book ≡ true → room < requiredLength (formulaOf book) → 10 ≡ openRefusal book room
+  pub open-ten : (room : ℕ) → wellFormed book ≡ true → room < requiredLength (variablesOf book) (clausesOf book) → 10 ≡ openRefusal book room
   unfolding openRefusal
-  open-ten room e h = rw (e, lt-ltb room (requiredLength (formulaOf book)) h)
+  open-ten room e h = rw (e, lt-ltb room (requiredLength (variablesOf book) (clausesOf book)) h)
 
-  pub open-none : (room : ℕ) → wellFormed book ≡ true → requiredLength (formulaOf book) ≤ room → 0 ≡ openRefusal book room
+  pub open-none : (room : ℕ) → wellFormed book ≡ true → requiredLength (variablesOf book) (clausesOf book) ≤ room → 0 ≡ openRefusal book room
   unfolding openRefusal
-  open-none room e h = rw (e, le-ltb room (requiredLength (formulaOf book)) h)
+  open-none room e h = rw (e, le-ltb room (requiredLength (variablesOf book) (clausesOf book)) h)
 
   pub open-refused : (n : ℕ) → n ≡ openRefusal book (length buffer) → (n ≡ 0 → ⊥) → (answer.Refused n ≡ openAnswer book (length buffer)) × (buffer ≡ openNumbers book buffer)
   unfolding openAnswer openNumbers
@@ -80,7 +76,7 @@ module _ (book buffer : List ℕ) where
       → (headAnswer now 0 ≡ openAnswer book (length buffer)) × (now ≡ openNumbers book buffer)
   unfolding openAnswer openNumbers
   open-done now e b =
-      let well : wellFormed book ≡ true = open-accepted book (length buffer) (sym e) .0 in (
+      let well : wellFormed book ≡ true = open-accepted book buffer (sym e) .well in (
         rw (← e) (head-answer (formulaOf book) now (openRun (formulaOf book)) 0 (b .encodes)),
         rw (← e) (becomes-overwritten book buffer now (openRun (formulaOf book)) well (open-valid (formulaOf book) (well-formed-sound book well)) b),
       )
@@ -100,9 +96,9 @@ module _ (book buffer : List ℕ) where
       → (headAnswer now 0 ≡ replayAnswer book calls (length buffer)) × (trailAt ≤ length now)
   unfolding replayAnswer
   replay-done calls now e is =
-      let well : wellFormed book ≡ true = open-accepted book (length buffer) (sym e) .0 in
+      let well : wellFormed book ≡ true = open-accepted book buffer (sym e) .well in
       let s = well-formed-sound book well in
       let run : Run = reference (formulaOf book) calls in
-      let front : now ≡ encode (formulaOf book) run ++ drop (requiredLength (formulaOf book)) buffer = is ∙ overwritten-is book buffer calls (sym e) in
-      let e′ : Encodes (formulaOf book) now run = rw front (encode-encodes (formulaOf book) s run (reference-valid (formulaOf book) s calls) (drop (requiredLength (formulaOf book)) buffer)) in
+      let front : now ≡ encode (formulaOf book) run ++ drop (requiredLength (variablesOf book) (length (formulaOf book .clauses))) buffer = is ∙ overwritten-is book buffer calls (sym e) in
+      let e′ : Encodes (formulaOf book) now run = rw front (encode-encodes (formulaOf book) s run (reference-valid (formulaOf book) s calls) (drop (requiredLength (variablesOf book) (length (formulaOf book .clauses))) buffer)) in
       (rw (← e) (head-answer (formulaOf book) now run 0 e′), omega (arith, e′ .long))

@@ -1,18 +1,18 @@
 -- A session that passes: 11 and 12 come first, and what is read in its numbers is what the run that it holds has.
-use Rattle.layout.specs.Layout.{Fits, TrailFits, lengthAt, decisionsAt, conflictAt, backtracksAt, trailAt, requiredLength, checksAt, held, valueSlot}
+use Rattle.layout.specs.Layout.{Fits, TrailFits, SessionFits, lengthAt, decisionsAt, conflictAt, backtracksAt, trailAt, requiredLength, checksAt, held, valueSlot}
 use Rattle.book.specs.Formula.{maxVariables, maxClauses, variableOf}
+use Rattle.layout.proofs.FitsLaws.{held-fits, session-fits, session-trail-fits}
 use Rattle.layout.proofs.ValueLaws.{held-value}
-use Prim.Native.Nat.{ℕ, zero, suc, _+_, _-_, _≤_}
+use Prim.Native.Nat.{ℕ, suc, _+_, _-_, _≤_}
 use mathlib.Core.Path.{_≡_, refl, ap, sym, _∙_}
 use mathlib.Core.Bool.{Bool, true, false, cond}
-use mathlib.Core.List.{List, [], _∷_}
-use native.Mathlib.Nat.{suc-sub-suc, sub-zero}
+use mathlib.Core.List.{List, []}
 use native.Mathlib.Omega.{arith}
 use lib.ListN.{length, getD, take, drop, length-take, length-drop, drop-of-length-le}
-use lib.Seq.{ext-getD, getD-take, getD-drop, drop-drop, take-nil}
+use lib.Seq.{ext-getD, getD-take, getD-drop, drop-drop}
 use Rattle.base.specs.Lists.{table, sum, copied}
 use Rattle.book.specs.Numbers.{wellFormed, formulaOf, variablesOf, clausesOf}
-use Rattle.book.proofs.PartLaws.{length-clauses}
+use Rattle.book.proofs.PartLaws.{clauses-counted}
 use Rattle.book.proofs.WellFormedLaws.{well-formed-sound, well-formed-limited}
 use Rattle.run.specs.Trail.{literalAt, decisions}
 use Rattle.run.specs.Run.{Run, trailBehind}
@@ -26,17 +26,12 @@ use Rattle.layout.specs.Encodes.{Encodes}
 use Rattle.layout.specs.Values.{valueRead, valueIn}
 use Rattle.engine.specs.Engine.{Holding}
 use Rattle.layout.specs.declared.values.Value.{Value}
+use Rattle.base.proofs.Lists.{part-taken}
 use Rattle.base.proofs.Tables.{getD-table, length-table}
 use Rattle.validation.proofs.PassLaws.{passes-iff}
 use Rattle.session.specs.declared.Shown.the-variants as shown
 use Rattle.session.specs.declared.Count.the-variants as count
 use Rattle.session.specs.declared.Sum.the-variants as total
-
-take-drop : (a n : ℕ) (xs : List ℕ) → a ≤ n → take (n - a) (drop a xs) ≡ drop a (take n xs)
-take-drop zero n xs h = ap (λ (k : ℕ). take k xs) (sub-zero n)
-take-drop (suc a) zero xs h = absurd (omega arith)
-take-drop (suc a) (suc n) [] h = take-nil (suc n - suc a)
-take-drop (suc a) (suc n) (x ∷ xs) h = ap (λ (k : ℕ). take k (drop a xs)) (suc-sub-suc n a) ∙ take-drop a n xs (omega arith)
 
 -- numbers 11 and 12
 module _ (book session : List ℕ) where
@@ -92,25 +87,21 @@ module _ (book session : List ℕ) where
     abbrev pub holding : Holding book session
     holding = record { well = well; run = held (formulaOf book) session; encodes = facts .1; valid = facts .0 }
 
-    pub long : requiredLength (formulaOf book) ≤ length session
-    long = facts .1 .long
+    -- the parts of the session are there
+    room : SessionFits book session
+    room = held-fits well (facts .1)
+
+    pub long : requiredLength (variablesOf book) (clausesOf book) ≤ length session
+    long = room .long
 
     pub few-variables : variablesOf book ≤ maxVariables
     few-variables = well-formed-limited book well .variables
 
-    -- the parts of the session are there
     pub fits : (v c : ℕ) → v ≡ variablesOf book → c ≡ clausesOf book → Fits v c session
-    fits v c a b =
-        let count : length (formulaOf book .clauses) ≡ clausesOf book = length-clauses book 0 (clausesOf book) in
-        let limited = well-formed-limited book well in
-        record {
-          few-variables = omega (arith, limited .variables);
-          few-clauses = omega (arith, limited .clauses);
-          long = rw (a, b, ← count) long;
-        }
+    fits v c a b = session-fits v c a b room
 
     pub trail-fits : (v : ℕ) → v ≡ variablesOf book → TrailFits v session
-    trail-fits v e = record { few-variables = omega (arith, few-variables); long = omega (arith, long) }
+    trail-fits v e = session-trail-fits v e room
 
     -- what is read for a literal answers for the trail
     pub value-answers : (x l : ℕ) (r : Value) → x ≡ variablesOf book → 2 ≤ l → variableOf l ≤ x
@@ -147,12 +138,11 @@ module _ (book session : List ℕ) where
         → take (from + clauses - from) (drop from session) ≡ held (formulaOf book) session .checks
     unfolding held
     checks-part from clauses f c =
-        let count : length (formulaOf book .clauses) ≡ clausesOf book = length-clauses book 0 (clausesOf book) in
-        let size : from + clauses - from ≡ length (formulaOf book .clauses) = omega arith in
-        rw (size, f, count)
+        let size : from + clauses - from ≡ length (formulaOf book .clauses) = omega (arith, clauses-counted book) in
+        rw (size, f, clauses-counted book)
 
     pub checks-count : length (held (formulaOf book) session .checks) ≡ clausesOf book
-    checks-count = facts .0 .checks-length ∙ length-clauses book 0 (clausesOf book)
+    checks-count = facts .0 .checks-length ∙ clauses-counted book
 
     pub few-clauses : clausesOf book ≤ maxClauses
     few-clauses = well-formed-limited book well .clauses
@@ -184,7 +174,7 @@ module _ (book session : List ℕ) where
     unfolding trailBehind
     trail-behind before from to f t h =
         let width : to - from ≡ getD session lengthAt 0 - before = omega arith in
-        rw (width, f) (sym (ap (take (getD session lengthAt 0 - before)) (drop-drop before trailAt session)) ∙ take-drop before (getD session lengthAt 0) (drop trailAt session) h ∙ ap (drop before) trail-part)
+        rw (width, f) (sym (ap (take (getD session lengthAt 0 - before)) (drop-drop before trailAt session)) ∙ part-taken before (getD session lengthAt 0) (drop trailAt session) h ∙ ap (drop before) trail-part)
 
     pub trail-none : (before : ℕ) → getD session lengthAt 0 ≤ before → [] ≡ trailBehind before (held (formulaOf book) session)
     unfolding trailBehind

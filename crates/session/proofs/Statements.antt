@@ -37,7 +37,7 @@ statement-2 book session e =
 pub open-passes : (book buffer : List ℕ) → openRefusal book (length buffer) ≡ 0 → readRefusal book (openNumbers book buffer) ≡ 0
 unfolding openNumbers readRefusal
 open-passes book buffer e =
-    let ok : wellFormed book ≡ true = open-accepted book (length buffer) e .0 in
+    let ok : wellFormed book ≡ true = open-accepted book buffer e .well in
     rw e (call-refusal book buffer ok (openRun (formulaOf book)) (open-valid (formulaOf book) (well-formed-sound book ok)) (λ (r : Run). 0))
 
 module _ (book session : List ℕ) (e : readRefusal book session ≡ 0) where
@@ -67,7 +67,7 @@ total-after book buffer well run valid =
 
 pub statement-3 : (book buffer : List ℕ) (calls : List Call) → openRefusal book (length buffer) ≡ 0 → Statement3 book buffer calls
 statement-3 book buffer calls e =
-    let well : wellFormed book ≡ true = open-accepted book (length buffer) e .0 in
+    let well : wellFormed book ≡ true = open-accepted book buffer e .well in
     let s = well-formed-sound book well in
     let valid = reference-valid (formulaOf book) s calls in
     let is = replayed book buffer calls e in

@@ -6,7 +6,7 @@ use lib.Dec.{leb, ltb, eqb}
 use lib.ListN.{length, drop}
 use Rattle.base.specs.Lists.{sum, copied}
 use Rattle.book.specs.Formula.{Formula, positive, negative}
-use Rattle.book.specs.Numbers.{wellFormed, formulaOf}
+use Rattle.book.specs.Numbers.{variablesOf, clausesOf, wellFormed, formulaOf}
 use Rattle.run.specs.Trail.{Entry, isTrue, decisions}
 use Rattle.run.specs.Run.{Run, inConflict, openRun, decide, backtrack}
 use Rattle.run.specs.Calls.{Call, decision, backtrackBy, decideRefusal, backtrackRefusal, reference}
@@ -27,7 +27,7 @@ use Rattle.session.specs.declared.Count.the-variants as count
 
 -- the numbers of a run, followed by what lay behind the required length
 unfoldable pub overwritten : Formula → Run → List ℕ → List ℕ
-overwritten formula run buffer = encode formula run ++ drop (requiredLength formula) buffer
+overwritten formula run buffer = encode formula run ++ drop (requiredLength (formula .variables) (length (formula .clauses))) buffer
 
 -- how many literals came on the trail behind the first so many, or the conflict clause's name
 unfoldable pub propagatedAnswer : ℕ → Run → Answer
@@ -57,11 +57,11 @@ module _ (book : List ℕ) where
 
   -- The required length of a session.
   unfoldable pub requiredAnswer : Count
-  requiredAnswer = cond (wellFormed book) (count.Of (requiredLength formula)) (count.Refused 11)
+  requiredAnswer = cond (wellFormed book) (count.Of (requiredLength (variablesOf book) (clausesOf book))) (count.Refused 11)
 
   -- Opening: 11, then 10; 0 where it is accepted.
   unfoldable pub openRefusal : ℕ → ℕ
-  openRefusal room = cond (wellFormed book) (cond (ltb room (requiredLength formula)) 10 0) 11
+  openRefusal room = cond (wellFormed book) (cond (ltb room (requiredLength (variablesOf book) (clausesOf book))) 10 0) 11
 
   unfoldable pub openAnswer : ℕ → Answer
   openAnswer room = cond (eqb (openRefusal room) 0) (propagatedAnswer 0 (openRun formula)) (answer.Refused (openRefusal room))

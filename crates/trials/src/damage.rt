@@ -1,7 +1,7 @@
 // The steps that make no call: numbers are changed, or how many numbers the next calls are lent.
 ghost use Prim.Native.Nat.{_≤_};
 ghost use Rattle.book.specs.Formula.{maxVariables, maxClauses};
-ghost use Rattle.layout.specs.Layout.{required};
+ghost use Rattle.layout.specs.Layout.{requiredLength};
 use crate::names;
 use crate::names::name;
 use crate::rows::number;
@@ -25,7 +25,7 @@ fn at_most(number: usize, most: usize) -> usize
 // Where a part of a session begins, for V and C; the required length behind the last part.
 fn part_at(part: usize, variables: usize, clauses: usize) -> usize
     requires { ⌜ (variables ≤ maxVariables) × (clauses ≤ maxClauses) ⌝ }
-    ensures { λ r. ⌜ r ≤ required maxVariables maxClauses ⌝ }
+    ensures { λ r. ⌜ r ≤ requiredLength maxVariables maxClauses ⌝ }
 {
     match part {
         names::HEADER => offsets::LENGTH,
@@ -37,13 +37,13 @@ fn part_at(part: usize, variables: usize, clauses: usize) -> usize
         names::CHECKS => offsets::checks_at(variables, clauses),
         names::HEADS => offsets::head_slot(variables, clauses, 2),
         names::LINKS => offsets::link_slot(variables, clauses, 1),
-        _ => offsets::required(variables, clauses),
+        _ => offsets::required_length(variables, clauses),
     }
 }
 
 // The same in a session on a book.
 fn begins(book: &[u32], part: usize) -> usize
-    ensures { λ r. ⌜ r ≤ required maxVariables maxClauses ⌝ }
+    ensures { λ r. ⌜ r ≤ requiredLength maxVariables maxClauses ⌝ }
 {
     part_at(
         part,
@@ -53,8 +53,8 @@ fn begins(book: &[u32], part: usize) -> usize
 }
 
 // The required length of a session on a book.
-pub fn required(book: &[u32]) -> usize
-    ensures { λ r. ⌜ r ≤ required maxVariables maxClauses ⌝ }
+pub fn required_length(book: &[u32]) -> usize
+    ensures { λ r. ⌜ r ≤ requiredLength maxVariables maxClauses ⌝ }
 {
     begins(book, names::BEHIND)
 }
@@ -76,7 +76,7 @@ pub fn write(book: &[u32], session: &mut [u32], step: &[u8]) {
 
 // How many numbers the calls behind a step are lent: so many, or so many fewer or more than the required length.
 pub fn room(book: &[u32], step: &[u8], called: usize) -> usize {
-    let length = required(book);
+    let length = required_length(book);
     let n = wide(number(step, b' ', 1));
     match called {
         names::SHORT => length - at_most(n, length),

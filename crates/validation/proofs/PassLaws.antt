@@ -27,10 +27,10 @@ module _ (formula : Formula) (s : sound formula ≡ true) (numbers : List ℕ) w
   run = held formula numbers
 
   abbrev long : Bool
-  long = leb (requiredLength formula) (length numbers)
+  long = leb (requiredLength (formula .variables) (length (formula .clauses))) (length numbers)
 
   abbrev encoded : Bool
-  encoded = same (take (requiredLength formula) numbers) (encode formula run)
+  encoded = same (take (requiredLength (formula .variables) (length (formula .clauses))) numbers) (encode formula run)
 
   passes-said : passes formula numbers ≡ true → Valid formula run × Encodes formula numbers run
   unfolding passes
@@ -39,15 +39,15 @@ module _ (formula : Formula) (s : sound formula ≡ true) (numbers : List ℕ) w
       let b = and-parts long encoded (a .0) in
       let valid = valid-test formula run s .0 (a .1) in (
         valid,
-        encoded-encodes formula s run valid numbers (leb-true (requiredLength formula) (length numbers) (b .0))
-            (same-equal (take (requiredLength formula) numbers) (encode formula run) (b .1)),
+        encoded-encodes formula s run valid numbers (leb-true (requiredLength (formula .variables) (length (formula .clauses))) (length numbers) (b .0))
+            (same-equal (take (requiredLength (formula .variables) (length (formula .clauses))) numbers) (encode formula run) (b .1)),
       )
 
   passes-tests : Valid formula run × Encodes formula numbers run → passes formula numbers ≡ true
   unfolding passes
   passes-tests h =
       both
-      (both (le-leb (requiredLength formula) (length numbers) (h .1 .long))
+      (both (le-leb (requiredLength (formula .variables) (length (formula .clauses))) (length numbers) (h .1 .long))
       (rw (encodes-encode formula s run (h .0) numbers (h .1)) (equal-same (encode formula run))))
       (valid-test formula run s .1 (h .0))
 

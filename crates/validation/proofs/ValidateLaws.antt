@@ -9,14 +9,14 @@ use lib.ListN.{length, getD, drop, length-drop, List·getD-eq-default}
 use lib.Seq.{length-take-le, getD-take, getD-drop}
 use Rattle.base.proofs.Bools.{refuted, below}
 use Rattle.book.specs.Numbers.{variablesOf, clausesOf, formulaOf, wellFormed}
-use Rattle.book.proofs.PartLaws.{length-clauses}
+use Rattle.book.proofs.PartLaws.{clauses-counted}
 use Rattle.book.proofs.WellFormedLaws.{well-formed-sound}
 use Rattle.run.specs.Run.{maxCount}
 use Rattle.run.specs.Calls.{maxBacktracks}
 use Rattle.run.specs.Valid.{Justified, Valid}
 use Rattle.run.proofs.Propagation.{valid-structure}
 use Rattle.run.proofs.Validity.{trail-short}
-use Rattle.layout.specs.Layout.{lengthAt, decisionsAt, conflictAt, backtracksAt, checksAt, required, requiredLength, held}
+use Rattle.layout.specs.Layout.{lengthAt, decisionsAt, conflictAt, backtracksAt, checksAt, SessionFits, requiredLength, held}
 use Rattle.validation.specs.Validation.{passes, callRefusal, readRefusal}
 use Rattle.layout.specs.Encodes.{Encodes}
 use Rattle.validation.specs.Inner.Trail.{TrailGood}
@@ -25,12 +25,13 @@ use Rattle.validation.specs.Inner.Lists.{ListsGood}
 use Rattle.validation.specs.Inner.Fixpoint.{FixpointOn}
 use Rattle.validation.specs.Inner.Conflict.{AllFalse}
 use Rattle.validation.proofs.trail.Laws.{held-length}
+use Rattle.layout.proofs.FitsLaws.{held-fits}
 use Rattle.layout.proofs.HeldLaws.{length-cells, length-lists}
 use Rattle.validation.proofs.PassLaws.{passes-iff}
 
 -- the conditions that a session has to meet in conflict and out of it
 pub record Built (book numbers : List ℕ) : Type 0 where
-  pub long : requiredLength (formulaOf book) ≤ length numbers
+  pub fits : SessionFits book numbers
   pub conflict-within : getD numbers conflictAt 0 ≤ clausesOf book
   pub backtracks-within : getD numbers backtracksAt 0 ≤ maxBacktracks
   pub trail : TrailGood (variablesOf book) numbers
@@ -47,11 +48,8 @@ pub record PartsPass (book numbers : List ℕ) : Type 0 where
 
 -- what is read of the book, and the conditions at it
 module _ (book numbers : List ℕ) (v : ℕ) (is : v ≡ variablesOf book) where
-  pub long-at : (n : ℕ) → n ≡ clausesOf book → required v n ≤ length numbers → requiredLength (formulaOf book) ≤ length numbers
-  long-at n clauses long = omega (arith, length-clauses book 0 (clausesOf book))
-
-  pub short-at : (n : ℕ) → n ≡ clausesOf book → length numbers < required v n → PartsPass book numbers → ⊥
-  short-at n clauses short p = omega (arith, length-clauses book 0 (clausesOf book), p .built .long)
+  pub short-at : (n : ℕ) → n ≡ clausesOf book → length numbers < requiredLength v n → PartsPass book numbers → ⊥
+  short-at n clauses short p = omega (arith, p .built .fits .long)
 
   pub trail-to : TrailGood v numbers → TrailGood (variablesOf book) numbers
   trail-to good = rw is at good
@@ -70,7 +68,7 @@ module _ (book numbers : List ℕ) (k : ℕ) (is : k ≡ getD numbers conflictAt
 module _ (book numbers : List ℕ) (well : wellFormed book ≡ true) where
   module _ (p : PartsPass book numbers) where
     long-checks : length (formulaOf book .clauses) ≤ length (drop (checksAt (variablesOf book) (length (formulaOf book .clauses))) numbers)
-    long-checks = rw length-drop (omega (arith, p .built .long))
+    long-checks = rw length-drop (omega (arith, p .built .fits .long, clauses-counted book))
 
     check-at : (c : ℕ) → c < length (formulaOf book .clauses)
         → getD numbers (checksAt (variablesOf book) (length (formulaOf book .clauses)) + c) 0
@@ -99,7 +97,7 @@ module _ (book numbers : List ℕ) (well : wellFormed book ≡ true) where
     unfolding held
     parts-encodes =
         record {
-          long = p .built .long;
+          long = omega (arith, p .built .fits .long, clauses-counted book);
           trail = p .built .trail .is-held;
           conflict = refl;
           backtracks = refl;
@@ -132,7 +130,7 @@ module _ (book numbers : List ℕ) (well : wellFormed book ≡ true) where
         before c e = omega arith
 
         inside : (c : ℕ) → getD numbers conflictAt 0 ≡ suc c → c < length (formulaOf book .clauses)
-        inside c e = omega (arith, p .built .conflict-within, length-clauses book 0 (clausesOf book))
+        inside c e = omega (arith, p .built .conflict-within, clauses-counted book)
 
     pub parts-pass : ((i : ℕ) → getD numbers i 0 ≤ maxCount) → passes (formulaOf book) numbers ≡ true
     parts-pass small =
@@ -145,7 +143,7 @@ module _ (book numbers : List ℕ) (well : wellFormed book ≡ true) where
       record {
         built =
             record {
-              long = e .long;
+              fits = held-fits well e;
               conflict-within = within (below 0 (getD numbers conflictAt 0));
               backtracks-within = v .backtracks-within;
               trail =
@@ -169,7 +167,7 @@ module _ (book numbers : List ℕ) (well : wellFormed book ≡ true) where
 
       within : (0 < getD numbers conflictAt 0) ⊎ (getD numbers conflictAt 0 ≤ 0) → getD numbers conflictAt 0 ≤ clausesOf book
       within (inl some) =
-          omega (arith, v .conflict-false (getD numbers conflictAt 0 - 1) (next some) .0, length-clauses book 0 (clausesOf book))
+          omega (arith, v .conflict-false (getD numbers conflictAt 0 - 1) (next some) .0, clauses-counted book)
       within (inr none) = omega arith
 
   pub passes-parts : passes (formulaOf book) numbers ≡ true → PartsPass book numbers

@@ -81,8 +81,8 @@ isValid formula run =
 -- A lent session passes exactly if it is long enough, its numbers are those of the run that they hold, and that run is valid.
 unfoldable pub passes : Formula → List ℕ → Bool
 passes formula numbers =
-    leb (requiredLength formula) (length numbers)
-    && same (take (requiredLength formula) numbers) (encode formula (held formula numbers))
+    leb (requiredLength (formula .variables) (length (formula .clauses))) (length numbers)
+    && same (take (requiredLength (formula .variables) (length (formula .clauses))) numbers) (encode formula (held formula numbers))
     && isValid formula (held formula numbers)
 
 -- Session calls: 11, then 12, then what the call itself refuses in the run that the session holds.

@@ -1,10 +1,7 @@
 // The validation of watches and pointers.
 ghost use mathlib.Core.Path.{_≡_};
-ghost use mathlib.Core.Bool.{true};
-ghost use Prim.Native.Nat.{_≤_};
-ghost use lib.ListN.{length};
-ghost use Rattle.book.specs.Numbers.{formulaOf, wellFormed};
-ghost use Rattle.layout.specs.Layout.{requiredLength};
+ghost use Rattle.book.specs.Numbers.{formulaOf};
+ghost use Rattle.layout.specs.Layout.{SessionFits};
 ghost use Rattle.validation.specs.Validation.{isWatching};
 ghost use Rattle.validation.specs.Inner.Says.{Says};
 ghost use Rattle.validation.specs.Inner.Cells.{CellsGood};
@@ -43,7 +40,7 @@ fn cell_passes(n: usize, first: u32, second: u32, pointer: u32) -> bool
 
 // The watches and pointers of all clauses.
 pub(crate) fn cells_pass(book: &[u32], session: &[u32]) -> bool
-    requires { ⌜ (wellFormed (now book) ≡ true) × (requiredLength (formulaOf (now book)) ≤ length (now session)) ⌝ }
+    requires { ⌜ SessionFits (now book) (now session) ⌝ }
     ensures { λ r. ⌜ Says r (CellsGood (formulaOf (now (book .entry))) (now (session .entry))) ⌝ }
 {
     let variables = book::variables(book);

@@ -21,7 +21,7 @@ use layout::limits::MAX_BACKTRACKS;
 use layout::offsets::BACKTRACKS;
 use layout::offsets::CONFLICT;
 use layout::offsets::DECISIONS;
-use layout::offsets::required;
+use layout::offsets::required_length;
 use layout::values::wide;
 
 // The numbers are those of a valid run: number 12 of the table is given exactly where this is false.
@@ -31,7 +31,7 @@ fn session_passes(book: &[u32], session: &[u32]) -> bool
 {
     let variables = book::variables(book);
     let clauses = book::clauses(book);
-    if session.len() < required(variables, clauses) {
+    if session.len() < required_length(variables, clauses) {
         return false;
     }
     let conflict = wide(session[CONFLICT]);

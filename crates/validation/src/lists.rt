@@ -1,12 +1,9 @@
 // The validation of watch lists, on any numbers.
 ghost use mathlib.Core.Path.{_≡_};
-ghost use mathlib.Core.Bool.{true};
 ghost use Prim.Native.Nat.{ℕ, _*_, _+_, _≤_};
-ghost use lib.ListN.{length, getD};
-ghost use Rattle.book.specs.Numbers.{variablesOf, clausesOf, formulaOf, wellFormed};
-ghost use Rattle.layout.specs.Layout.{requiredLength};
+ghost use lib.ListN.{getD};
+ghost use Rattle.book.specs.Numbers.{variablesOf, clausesOf, formulaOf};
 ghost use Rattle.validation.specs.Inner.Says.{Says};
-ghost use Rattle.validation.specs.Inner.Cells.{CellsGood};
 ghost use Rattle.validation.specs.Inner.Lists.{ListsGood, ownerIn, Looking, Marks, ListSays, AllSays, NodeGood, NodesGood};
 use book::limits::MAX_CLAUSES;
 use layout::offsets::head_slot;
@@ -113,7 +110,7 @@ fn nodes_pass(book: &[u32], session: &[u32], marks: &[u8; NODES]) -> bool
 
 // Heads and links: the lists of all literals hold the nodes of all watches.
 pub(crate) fn lists_pass(book: &[u32], session: &[u32]) -> bool
-    requires { ⌜ (wellFormed (now book) ≡ true) × (requiredLength (formulaOf (now book)) ≤ length (now session)) × CellsGood (formulaOf (now book)) (now session) ⌝ }
+    requires { ⌜ Looking (now book) (now session) ⌝ }
     ensures { λ r. ⌜ Says r (ListsGood (formulaOf (now (book .entry))) (now (session .entry))) ⌝ }
 {
     let mut marks = [0u8; NODES];

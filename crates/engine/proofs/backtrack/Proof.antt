@@ -5,7 +5,7 @@ use native.Mathlib.Omega.{arith}
 use borrow.Author.Needs.{needs}
 use lib.ListN.{length, length-set}
 use lib.Seq.{getD-set-other}
-use Rattle.book.proofs.WellFormedLaws.{well-formed-limited}
+use Rattle.layout.proofs.FitsLaws.{held-fits, session-trail-fits}
 use Rattle.engine.proofs.StepLaws.{few-backtracks, backtrack-cutting, backtrack-done}
 use Rattle.engine.proofs.backtrack.Statement.{statement}
 use Rattle.engine.proofs.backtrack.Tie as tie
@@ -20,11 +20,8 @@ start c = c .before .before .before .before
 
 cut-levels-requires : tie.Need-cut-levels-requires
 cut-levels-requires c κs =
-    let same = c .variables .ensures in (
-      record {
-        few-variables = omega (arith, well-formed-limited (start c .args .book .now) (start c .pre .0 .well) .variables);
-        long = omega (arith, start c .pre .0 .encodes .long);
-      },
+    (
+      session-trail-fits _ (c .variables .ensures) (held-fits (start c .pre .0 .well) (start c .pre .0 .encodes)),
       (start c .pre .0 .run .trail, backtrack-cutting (start c .pre .0) (start c .args .k) (start c .pre .1) (c .variables .result) (c .variables .ensures)),
     )
 

@@ -7,10 +7,11 @@ use native.Mathlib.Omega.{arith}
 use borrow.Author.Needs.{needs}
 use lib.ListN.{getD, length-set}
 use lib.Seq.{getD-set-other}
-use Rattle.book.specs.Numbers.{formulaOf}
+use Rattle.book.specs.Numbers.{clausesOf, formulaOf}
 use Rattle.run.specs.Run.{decide}
 use Rattle.run.specs.Calls.{decideRefusal}
 use Rattle.book.proofs.WellFormedLaws.{well-formed-limited}
+use Rattle.layout.proofs.FitsLaws.{held-fits, session-fits, fits-trail, fits-kept}
 use Rattle.engine.specs.Engine.{Holding, Becomes}
 use Rattle.engine.specs.Inner.Propagation.{Propagating}
 use Rattle.engine.proofs.StepLaws.{decision-ready, decision-begun, decision-done}
@@ -58,10 +59,7 @@ assign-requires c κs =
     let ready = decision-ready (start here .pre .0) (start here .args .literal) (start here .pre .1) in
     let same = c .before .before .before .before .variables .ensures in
     let kept = getD-set-other (session here) decisionsAt lengthAt (getD (session here) decisionsAt 0 + 1) 0 (λ z. omega arith) in (
-      record {
-        few-variables = omega (arith, well-formed-limited (book here) (start here .pre .0 .well) .variables);
-        long = omega (arith, length-set (session here) decisionsAt (getD (session here) decisionsAt 0 + 1), start here .pre .0 .encodes .long);
-      },
+      fits-trail (fits-kept (length-set (session here) decisionsAt (getD (session here) decisionsAt 0 + 1)) (session-fits _ (clausesOf (book here)) same refl (held-fits (start here .pre .0 .well) (start here .pre .0 .encodes)))),
       omega arith,
       ready .low,
       omega (arith, ready .within),

@@ -15,7 +15,7 @@ use Rattle.run.specs.Run.{Run, listOf}
 use Rattle.run.proofs.Clauses.{clause-exists}
 use Rattle.run.proofs.WatchLists.{listed-size}
 use Rattle.run.specs.Progress.{Watched}
-use Rattle.layout.specs.Layout.{watchesAt, pointersAt, checksAt, required, nodeOf, headSlot, linkSlot}
+use Rattle.layout.specs.Layout.{watchesAt, pointersAt, checksAt, requiredLength, nodeOf, headSlot, linkSlot}
 use Rattle.layout.specs.Encodes.{ListsHeld, WatchesHeld, Encodes}
 use Rattle.layout.proofs.ChainLaws.{Within, watched-apart, watched-once}
 use Rattle.engine.specs.Inner.Lists.{listsAt, Orderly, Lists}
@@ -50,7 +50,7 @@ orderly-within {formula} o l d h = clause-exists formula d (let z = o .within l 
 
 -- numbers that are 0 hold no list
 pub lists-held-none : (formula : Formula) (numbers : List ℕ) (count : ℕ)
-    → ((x : ℕ) → listsAt (formula .variables) (length (formula .clauses)) ≤ x → x < required (formula .variables) (length (formula .clauses)) → getD numbers x 0 ≡ 0)
+    → ((x : ℕ) → listsAt (formula .variables) (length (formula .clauses)) ≤ x → x < requiredLength (formula .variables) (length (formula .clauses)) → getD numbers x 0 ≡ 0)
     → ListsHeld formula numbers [] (replicate count [])
 lists-held-none formula numbers count zeros =
     record {
@@ -62,7 +62,7 @@ lists-held-none formula numbers count zeros =
 
 -- the lists lie where they lay, and the nodes of their clauses stay
 pub lists-held-kept : (formula : Formula) (s t : List ℕ) (cells after : List Cell) (lists : List (List ℕ)) → Within formula lists
-    → ((x : ℕ) → listsAt (formula .variables) (length (formula .clauses)) ≤ x → x < required (formula .variables) (length (formula .clauses)) → getD t x 0 ≡ getD s x 0)
+    → ((x : ℕ) → listsAt (formula .variables) (length (formula .clauses)) ≤ x → x < requiredLength (formula .variables) (length (formula .clauses)) → getD t x 0 ≡ getD s x 0)
     → ((l d : ℕ) → 0 < times d (listOf lists l) → nodeOf formula after l d ≡ nodeOf formula cells l d)
     → ListsHeld formula s cells lists → ListsHeld formula t after lists
 lists-held-kept formula s t cells after lists within alike same k =
@@ -72,7 +72,7 @@ lists-held-kept formula s t cells after lists within alike same k =
     }
 
 pub lists-kept : {v n : ℕ} {s t : List ℕ} {formula : Formula} {cells : List Cell} {lists : List (List ℕ)} (after : List Cell) → length t ≡ length s
-    → ((x : ℕ) → listsAt v n ≤ x → x < required v n → getD t x 0 ≡ getD s x 0)
+    → ((x : ℕ) → listsAt v n ≤ x → x < requiredLength v n → getD t x 0 ≡ getD s x 0)
     → ((l d : ℕ) → 0 < times d (listOf lists l) → nodeOf formula after l d ≡ nodeOf formula cells l d)
     → Lists v n s formula cells lists → Lists v n t formula after lists
 lists-kept {v} {n} {s} {t} {formula} {cells} {lists} after long alike same k =
@@ -102,7 +102,7 @@ module _ (formula : Formula) where
 
   pub held-frame : (s t : List ℕ) (cells : List Cell) (lists : List (List ℕ)) → Within formula lists
       → ((x : ℕ) → watchesAt (formula .variables) ≤ x → x < checksAt (formula .variables) (length (formula .clauses)) → getD t x 0 ≡ getD s x 0)
-      → ((x : ℕ) → listsAt (formula .variables) (length (formula .clauses)) ≤ x → x < required (formula .variables) (length (formula .clauses)) → getD t x 0 ≡ getD s x 0)
+      → ((x : ℕ) → listsAt (formula .variables) (length (formula .clauses)) ≤ x → x < requiredLength (formula .variables) (length (formula .clauses)) → getD t x 0 ≡ getD s x 0)
       → WatchesHeld formula s cells lists → WatchesHeld formula t cells lists
   held-frame s t cells lists within same alike k =
       record {

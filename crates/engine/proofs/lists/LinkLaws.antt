@@ -11,7 +11,7 @@ use Rattle.base.proofs.Occurrences.{times-more, times-append}
 use Rattle.book.specs.Formula.{Formula}
 use Rattle.run.specs.Scan.{Cell}
 use Rattle.run.specs.Run.{size, listOf}
-use Rattle.layout.specs.Layout.{nodeOf, required, headSlot, linkSlot}
+use Rattle.layout.specs.Layout.{nodeOf, requiredLength, headSlot, linkSlot}
 use Rattle.layout.specs.Encodes.{Chain, nodesOf, endSlot}
 use Rattle.layout.proofs.ChainLaws.{Nodes, Within, node-between}
 use Rattle.engine.specs.Inner.Lists.{listsAt}
@@ -97,7 +97,7 @@ Chains formula numbers cells lists =
 
 -- the numbers of the lists are the same, and so are the nodes
 pub chains-kept : (formula : Formula) (s t : List ℕ) (cells after : List Cell) (lists : List (List ℕ)) → Within formula lists
-    → ((x : ℕ) → listsAt (formula .variables) (length (formula .clauses)) ≤ x → x < required (formula .variables) (length (formula .clauses)) → getD t x 0 ≡ getD s x 0)
+    → ((x : ℕ) → listsAt (formula .variables) (length (formula .clauses)) ≤ x → x < requiredLength (formula .variables) (length (formula .clauses)) → getD t x 0 ≡ getD s x 0)
     → ((l d : ℕ) → 0 < times d (listOf lists l) → nodeOf formula after l d ≡ nodeOf formula cells l d)
     → Chains formula s cells lists → Chains formula t after lists
 chains-kept formula s t cells after lists within alike same k l low high =

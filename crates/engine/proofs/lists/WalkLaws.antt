@@ -12,7 +12,7 @@ use Rattle.base.proofs.Occurrences.{map-alike, once-short, times-append}
 use Rattle.book.specs.Formula.{Formula}
 use Rattle.run.specs.Scan.{Cell}
 use Rattle.run.specs.Run.{listOf}
-use Rattle.layout.specs.Layout.{required, nodeOf, firstNode, headSlot, linkSlot}
+use Rattle.layout.specs.Layout.{requiredLength, nodeOf, firstNode, headSlot, linkSlot}
 use Rattle.layout.specs.Encodes.{Chain, nodesOf, endSlot}
 use Rattle.layout.proofs.ChainLaws.{node-between, node-positive, chain-head}
 use Rattle.layout.proofs.HeldLaws.{chain-held}
@@ -64,7 +64,7 @@ module _ {formula : Formula} {cells : List Cell} {lists : List (List ℕ)} where
           slot-within = place .1;
         }
       where
-        place-of : SlotCase formula cells lists q (walk .slot) → (listsAt v n ≤ walk .slot) × (walk .slot < required v n)
+        place-of : SlotCase formula cells lists q (walk .slot) → (listsAt v n ≤ walk .slot) × (walk .slot < requiredLength v n)
         place-of (inl e) =
             let vs = at .variables-are in
             let ns = at .clauses-are in

@@ -15,7 +15,7 @@ use Rattle.base.proofs.Lists.{getD-alike}
 use Rattle.base.proofs.Bools.{alike, below}
 use Rattle.book.specs.Formula.{Formula, sound}
 use Rattle.book.specs.Numbers.{variablesOf, clausesOf, clauseAt, formulaOf, wellFormed}
-use Rattle.book.proofs.PartLaws.{length-clauses, clause-of-formula}
+use Rattle.book.proofs.PartLaws.{clauses-counted, clause-of-formula}
 use Rattle.book.proofs.SoundLaws.{literal-parts}
 use Rattle.book.proofs.WellFormedLaws.{well-formed-sound}
 use Rattle.run.specs.Trail.{place, literalAt, isTrue, decisions, level}
@@ -24,7 +24,7 @@ use Rattle.run.specs.Run.{clauseOf, size, noCell, listOf, pushFront, withWatche
 use Rattle.run.proofs.Clauses.{literal-within}
 use Rattle.run.proofs.Opening.{first-big, first-small}
 use Rattle.run.proofs.WatchLists.{literals-differ}
-use Rattle.layout.specs.Layout.{lengthAt, decisionsAt, conflictAt, backtracksAt, trailAt, levelsAt, valuesAt, watchesAt, pointersAt, checksAt, requiredLength, valueNumber, levelNumber, nodeOf}
+use Rattle.layout.specs.Layout.{lengthAt, decisionsAt, conflictAt, backtracksAt, trailAt, levelsAt, valuesAt, watchesAt, pointersAt, checksAt, SessionFits, requiredLength, valueNumber, levelNumber, nodeOf}
 use Rattle.layout.specs.Encodes.{Encodes}
 use Rattle.layout.proofs.ChainLaws.{node-between, node-first, node-second, node-same}
 use Rattle.engine.specs.Engine.{SameBehind, Becomes}
@@ -66,17 +66,18 @@ unfolding watchAll
 watch-step clauses c lists whole h e = rw (drop-cons clauses c [] h) at e
 
 -- Numbers that are 0 hold no list and no watch.
-pub watches-begin : (book numbers : List ℕ) → requiredLength (formulaOf book) ≤ length numbers
-    → ((i : ℕ) → i < requiredLength (formulaOf book) → getD numbers i 0 ≡ 0) → FirstWatches book numbers 0
+pub watches-begin : (book numbers : List ℕ) → SessionFits book numbers
+    → ((i : ℕ) → i < requiredLength (variablesOf book) (clausesOf book) → getD numbers i 0 ≡ 0) → FirstWatches book numbers 0
 unfolding times withWatches fresh decisions literalAt levelNumber level valueNumber isTrue place
-watches-begin book numbers long zeros =
+watches-begin book numbers fits zeros =
     let v = variablesOf book in
     let n = length (formulaOf book .clauses) in
+    let counted = clauses-counted book in
     record {
       lists = replicate (2 * variablesOf book + 2) [];
       encodes =
           record {
-            long = long;
+            long = omega (arith, fits .long);
             trail =
                 record {
                   count = zeros lengthAt (omega arith);
@@ -121,7 +122,7 @@ module _ (book : List ℕ) (c : ℕ) (well : wellFormed book ≡ true) (inside-b
   after-cells = map firstCell (take (suc c) (formulaOf book .clauses))
 
   inside : c < length (formula .clauses)
-  inside = omega (arith, length-clauses book 0 (clausesOf book))
+  inside = omega (arith, clauses-counted book)
 
   sound-is : sound formula ≡ true
   sound-is = well-formed-sound book well
@@ -132,8 +133,8 @@ module _ (book : List ℕ) (c : ℕ) (well : wellFormed book ≡ true) (inside-b
   first-lists k =
       record {
         variables-are = refl;
-        clauses-are = length-clauses book 0 (clausesOf book);
-        long = omega (arith, k .encodes .long, length-clauses book 0 (clausesOf book));
+        clauses-are = clauses-counted book;
+        long = omega (arith, k .encodes .long, clauses-counted book);
         many = k .lists-length;
         held = k .encodes .watches .in-lists;
         orderly = k .orderly;
@@ -277,9 +278,8 @@ module _ (book : List ℕ) (c : ℕ) (well : wellFormed book ≡ true) (inside-b
               second-push .only .same-length ∙ first-push .only .same-length
               ∙ rw stored-is (watch-length (variablesOf book) (clausesOf book) numbers (2 * c + 2) 1);
           same-behind =
-              rw (length-clauses book 0 (clausesOf book))
-              (lists-behind (second-push .only) ∙ lists-behind (first-push .only)
-              ∙ rw stored-is (watch-behind (variablesOf book) (clausesOf book) numbers (2 * c + 2) 1 (omega arith) (omega arith)));
+              lists-behind (second-push .only) ∙ lists-behind (first-push .only)
+              ∙ rw stored-is (watch-behind (variablesOf book) (clausesOf book) numbers (2 * c + 2) 1 (omega arith) (omega arith));
           holds = λ k. subst (FirstWatches book twice) (sym (add-one c)) (first-next k);
         }
 
@@ -294,14 +294,14 @@ module _ (book : List ℕ) (c : ℕ) (well : wellFormed book ≡ true) (inside-b
       (rw (vars-is, many-is, m-is ∙ ap (λ (x : List ℕ). getD x 1 0) (sym is)) at second-push)
 
 -- all clauses have them
-pub watches-end : {book before numbers : List ℕ} (c : ℕ) → clausesOf book ≤ c → length numbers ≡ length before → SameBehind (formulaOf book) before numbers
+pub watches-end : {book before numbers : List ℕ} (c : ℕ) → clausesOf book ≤ c → length numbers ≡ length before → SameBehind book before numbers
     → FirstWatches book numbers c → Becomes book before numbers (fresh (formulaOf book))
 unfolding withWatches fresh watchAll
 watches-end {book} {before} {numbers} c h long behind k =
     record { encodes = rw (sym all-cells, sym all-lists) (k .encodes); same-length = long; same-behind = behind }
   where
     enough : length (formulaOf book .clauses) ≤ c
-    enough = omega (arith, length-clauses book 0 (clausesOf book))
+    enough = omega (arith, clauses-counted book)
 
     all-cells : map firstCell (take c (formulaOf book .clauses)) ≡ map firstCell (formulaOf book .clauses)
     all-cells = ap (map firstCell) (take-all c (formulaOf book .clauses) enough)

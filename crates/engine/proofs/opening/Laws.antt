@@ -14,7 +14,7 @@ use Rattle.base.proofs.Lists.{part, length-part}
 use Rattle.base.proofs.Bools.{alike, never}
 use Rattle.book.specs.Formula.{literalWithin}
 use Rattle.book.specs.Numbers.{variablesOf, clausesOf, clauseStart, clauseAt, formulaOf, wellFormed}
-use Rattle.book.proofs.PartLaws.{clause-between, clause-inside, length-clauses}
+use Rattle.book.proofs.PartLaws.{clause-between, clause-inside, clauses-counted}
 use Rattle.book.proofs.SoundLaws.{literal-parts, clause-parts, clause-literal}
 use Rattle.book.proofs.WellFormedLaws.{well-formed-parted, well-formed-sound, well-formed-clause}
 use Rattle.run.specs.Trail.{isTrue, isFalse}
@@ -134,7 +134,7 @@ module _ {book numbers : List ℕ} (c : ℕ) (at : Units book numbers c) where
                 (record {
                   encodes = encodes-conflict (suc c) (at .opened .structure .watched) (at .encodes);
                   same-length = length-set numbers conflictAt (suc c);
-                  same-behind = drop-set-lt (requiredLength (formulaOf book)) numbers 2 (suc c) (omega arith);
+                  same-behind = drop-set-lt (requiredLength (variablesOf book) (clausesOf book)) numbers 2 (suc c) (omega arith);
                 });
             says = rw conflict (sym (loud c));
           })
@@ -167,7 +167,7 @@ module _ {book numbers : List ℕ} (c : ℕ) (at : Units book numbers c) where
                         encodes-implied (formulaOf book) numbers (at .run) (at .encodes) (at .opened .structure .watched)
                         (at .opened .structure .trailed) literal 0 (sym (at .encodes .trail .decided ∙ at .opened .undecided)) within untrue unfalse;
                     same-length = beside .same-length;
-                    same-behind = beside-behind beside (requiredLength (formulaOf book)) (omega arith);
+                    same-behind = beside-behind beside (requiredLength (variablesOf book) (clausesOf book)) (omega arith);
                   });
               says = rw implied (sym (quiet-out (at .run) (at .opened .quiet)));
             }
@@ -215,7 +215,7 @@ module _ (book before : List ℕ) (well : wellFormed book ≡ true) where
       → UnitDone book numbers after c (k .run) true
       → Becomes book before after (assignUnits 0 (formulaOf book .clauses) (fresh (formulaOf book)))
   units-conflict c h k d =
-      rw (sym (rw (sym (d .says)) at (units-step (formulaOf book .clauses) c (k .run) (assignUnits 0 (formulaOf book .clauses) (fresh (formulaOf book))) (omega (arith, length-clauses book 0 (clausesOf book))) (k .rest))))
+      rw (sym (rw (sym (d .says)) at (units-step (formulaOf book .clauses) c (k .run) (assignUnits 0 (formulaOf book .clauses) (fresh (formulaOf book))) (omega (arith, clauses-counted book)) (k .rest))))
       (becomes-then (k .becomes) (d .becomes))
 
   pub units-next : {numbers after : List ℕ} (c : ℕ) → c < clausesOf book → (k : FirstUnits book before numbers c)
@@ -231,20 +231,20 @@ module _ (book before : List ℕ) (well : wellFormed book ≡ true) where
         rest =
             rw (sym (d .says)) at
             (units-step (formulaOf book .clauses) c (k .run) (assignUnits 0 (formulaOf book .clauses) (fresh (formulaOf book)))
-            (omega (arith, length-clauses book 0 (clausesOf book))) (k .rest));
+            (omega (arith, clauses-counted book)) (k .rest));
       })
 
   pub units-end : {numbers : List ℕ} (c : ℕ) → clausesOf book ≤ c → FirstUnits book before numbers c
       → Becomes book before numbers (assignUnits 0 (formulaOf book .clauses) (fresh (formulaOf book)))
   unfolding assignUnits
   units-end c h k =
-      let all : length (formulaOf book .clauses) ≤ c = omega (arith, length-clauses book 0 (clausesOf book)) in
+      let all : length (formulaOf book .clauses) ≤ c = omega (arith, clauses-counted book) in
       rw (sym (rw (drop-of-length-le (formulaOf book .clauses) all) at (k .rest))) (k .becomes)
 
 -- The opening as a whole.
-module _ (book before cleared : List ℕ) (count : ℕ) (well : wellFormed book ≡ true) (count-is : count ≡ requiredLength (formulaOf book))
+module _ (book before cleared : List ℕ) (count : ℕ) (well : wellFormed book ≡ true) (count-is : count ≡ requiredLength (variablesOf book) (clausesOf book))
     (clear : Cleared count before cleared) where
-  pub cleared-zeros : (i : ℕ) → i < requiredLength (formulaOf book) → getD cleared i 0 ≡ 0
+  pub cleared-zeros : (i : ℕ) → i < requiredLength (variablesOf book) (clausesOf book) → getD cleared i 0 ≡ 0
   cleared-zeros i h = clear .zeros i (omega arith)
 
   abbrev pub opening-begun : {numbers : List ℕ} → Encodes (formulaOf book) numbers (assignUnits 0 (formulaOf book .clauses) (fresh (formulaOf book)))

@@ -11,9 +11,9 @@ use lib.ListN.{length, getD}
 use Rattle.base.proofs.Bools.{never}
 use Rattle.book.specs.Formula.{Formula, sound}
 use Rattle.book.specs.Numbers.{variablesOf, clausesOf, formulaOf, wellFormed}
-use Rattle.book.proofs.PartLaws.{length-clauses}
+use Rattle.book.proofs.PartLaws.{clauses-counted}
 use Rattle.book.proofs.SoundLaws.{literal-parts}
-use Rattle.book.proofs.WellFormedLaws.{well-formed-limited, well-formed-sound}
+use Rattle.book.proofs.WellFormedLaws.{well-formed-sound}
 use Rattle.run.specs.Trail.{opposite, place, literalAt}
 use Rattle.run.specs.Run.{Run, listOf, visit, inConflict, readList, propagateFrom, propagate}
 use Rattle.run.proofs.Trails.{place-true, place-of-literal}
@@ -24,6 +24,7 @@ use Rattle.run.specs.Progress.{Going, Ended, ReadingList}
 use Rattle.run.proofs.Visits.{visit-outcome}
 use Rattle.run.proofs.Validity.{reading-begins, reading-ends, trail-short, fuel-enough}
 use Rattle.layout.specs.Layout.{Fits, lengthAt, conflictAt, trailAt}
+use Rattle.layout.proofs.FitsLaws.{held-fits, session-fits}
 use Rattle.layout.specs.Encodes.{Encodes}
 use Rattle.engine.specs.Engine.{Becomes}
 use Rattle.engine.specs.Inner.Lists.{Lists, Walking, Begun, leftOf}
@@ -142,14 +143,7 @@ module _ (book : List ℕ) where
       (here, omega arith, omega arith)
 
   pub next-fits : {numbers : List ℕ} {i : ℕ} (vars many : ℕ) → vars ≡ variablesOf book → many ≡ clausesOf book → Next book numbers i → Fits vars many numbers
-  next-fits vars many vars-is many-is n =
-      let limits = well-formed-limited book (n .well) in
-      rw (vars-is, many-is)
-      (record {
-        few-variables = limits .variables;
-        few-clauses = limits .clauses;
-        long = omega (arith, n .encodes .long, length-clauses book 0 (clausesOf book));
-      })
+  next-fits vars many vars-is many-is n = session-fits vars many vars-is many-is (held-fits (n .well) (n .encodes))
 
   pub next-opposite : {numbers : List ℕ} {i : ℕ} (q : ℕ) → Next book numbers i → q ≡ opposite (getD numbers (trailAt + i) 0)
       → (2 ≤ q) × (q ≤ 2 * variablesOf book + 1)
@@ -160,7 +154,7 @@ module _ (book : List ℕ) where
   lists-at : {handled q : ℕ} {unread numbers : List ℕ} {run : Run} (vars many : ℕ) → vars ≡ variablesOf book → many ≡ clausesOf book → wellFormed book ≡ true
       → Encodes formula numbers run → ReadingList formula handled q unread run → Lists vars many numbers formula (run .cells) (run .lists)
   lists-at vars many vars-is many-is w e r =
-      lists-of vars many (sym vars-is) (length-clauses book 0 (clausesOf book) ∙ sym many-is) (well-formed-sound book w) (r .going .structure .watched) e
+      lists-of vars many (sym vars-is) (clauses-counted book ∙ sym many-is) (well-formed-sound book w) (r .going .structure .watched) e
 
   -- its list begins to be read
   pub reading-on-begins : {numbers : List ℕ} {i : ℕ} (vars many q : ℕ) (walk : Walk) → vars ≡ variablesOf book → many ≡ clausesOf book

@@ -3,20 +3,21 @@ use Prim.Native.Nat.{ℕ, _+_, _*_, _-_, _≤_, _<_}
 use native.Mathlib.Omega.{arith}
 use mathlib.Core.Bool.{true}
 use mathlib.Core.List.{List}
-use mathlib.Core.Path.{_≡_, sym, _∙_}
+use mathlib.Core.Path.{_≡_, refl, sym, _∙_}
 use lib.ListN.{length, getD, take, drop, length-take, length-drop}
 use Rattle.base.proofs.Lists.{part}
 use Rattle.book.specs.Formula.{sound}
 use Rattle.book.specs.Numbers.{variablesOf, clausesOf, clauseStart, formulaOf}
-use Rattle.book.proofs.PartLaws.{clause-between, clause-inside, clause-of-formula, length-clauses}
+use Rattle.book.proofs.PartLaws.{clause-between, clause-inside, clause-of-formula, clauses-counted}
 use Rattle.book.proofs.SoundLaws.{literal-parts}
-use Rattle.book.proofs.WellFormedLaws.{well-formed-parted, well-formed-limited, well-formed-sound}
+use Rattle.book.proofs.WellFormedLaws.{well-formed-parted, well-formed-sound}
 use Rattle.run.specs.Trail.{Entry}
 use Rattle.run.specs.Scan.{Scanned, scan}
 use Rattle.run.specs.Run.{clauseOf, size, cellOf}
 use Rattle.run.proofs.Clauses.{clause-short, literal-within}
 use Rattle.run.proofs.ScanLaws.{pointer-within}
 use Rattle.layout.specs.Layout.{Fits, valuesAt, watchesAt, pointersAt}
+use Rattle.layout.proofs.FitsLaws.{held-fits, session-fits}
 use Rattle.layout.specs.Values.{Reads}
 use Rattle.layout.proofs.ValueLaws.{held-reads}
 use Rattle.engine.specs.Inner.Scan.{ScanReady}
@@ -31,22 +32,17 @@ values-part v vars from to numbers e from-is to-is =
 
 -- A scan of a clause of numbers that hold a run.
 module _ {book numbers : List ℕ} {c : ℕ} (s : Scannable book numbers c) where
-  clauses-many : length (formulaOf book .clauses) ≡ clausesOf book
-  clauses-many = length-clauses book 0 (clausesOf book)
-
   scanned-sound : sound (formulaOf book) ≡ true
   scanned-sound = well-formed-sound book (s .well)
 
   in-formula : c < length (formulaOf book .clauses)
-  in-formula = omega (arith, s .inside, clauses-many)
+  in-formula = omega (arith, s .inside, clauses-counted book)
 
   at-pointer : getD numbers (pointersAt (variablesOf book) (clausesOf book) + c) 0 ≡ cellOf (s .run) c .pointer
-  at-pointer = rw (← clauses-many) (s .encodes .watches .pointers c in-formula)
+  at-pointer = rw (← clauses-counted book) (s .encodes .watches .pointers c in-formula)
 
   pub scan-fits : Fits (variablesOf book) (clausesOf book) numbers
-  scan-fits =
-      let limits = well-formed-limited book (s .well) in
-      record { few-variables = limits .variables; few-clauses = limits .clauses; long = rw (← clauses-many) (s .encodes .long) }
+  scan-fits = session-fits (variablesOf book) (clausesOf book) refl refl (held-fits (s .well) (s .encodes))
 
   pub scanned-clause : (start end : ℕ) → start ≡ clauseStart book c → end ≡ clauseStart book (c + 1)
       → part start end book ≡ clauseOf (formulaOf book) c

@@ -10,7 +10,7 @@ use lib.ListN.{length, getD, set, drop, length-set}
 use lib.Seq.{drop-set-lt}
 use Rattle.book.specs.Formula.{maxClause, Formula, variableOf, literalWithin}
 use Rattle.book.specs.Numbers.{variablesOf, clausesOf, clauseStart, formulaOf}
-use Rattle.book.proofs.PartLaws.{length-clauses}
+use Rattle.book.proofs.PartLaws.{clauses-counted}
 use Rattle.book.proofs.SoundLaws.{literal-parts}
 use Rattle.base.specs.Lists.{times}
 use Rattle.run.specs.Trail.{Entry, isTrue, isFalse}
@@ -21,7 +21,7 @@ use Rattle.run.proofs.Order.{pushed-elsewhere}
 use Rattle.run.proofs.ScanLaws.{pointer-within, scan-found}
 use Rattle.run.proofs.WatchLists.{moved-apart, moved-watched}
 use Rattle.run.specs.Progress.{Watched}
-use Rattle.layout.specs.Layout.{decisionsAt, conflictAt, lengthAt, checksAt, required, requiredLength}
+use Rattle.layout.specs.Layout.{decisionsAt, conflictAt, lengthAt, checksAt, requiredLength}
 use Rattle.layout.specs.Encodes.{Encodes}
 use Rattle.engine.specs.Engine.{SameBehind}
 use Rattle.engine.specs.Inner.Lists.{Lists, Walking, Unlisted, KeptOn, TakenOut, PushedFront}
@@ -61,11 +61,8 @@ module _ {book numbers : List ℕ} {walk : Walk} {other : ℕ} {dead : Bool} (se
   abbrev trail : List Entry
   trail = seeking .at .run .trail
 
-  many-are : length (formula .clauses) ≡ clausesOf book
-  many-are = length-clauses book 0 (clausesOf book)
-
   inside : c < clausesOf book
-  inside = omega (arith, clause-inside-formula at, many-are)
+  inside = omega (arith, clause-inside-formula at, clauses-counted book)
 
   pub seeking-scannable : (d : ℕ) → d ≡ (walk .node - 1) / 2 → Scannable book numbers d
   seeking-scannable d e =
@@ -170,7 +167,7 @@ module _ {book numbers : List ℕ} {walk : Walk} {other : ℕ} {dead : Bool} (se
       pushed-length : length pushed ≡ length numbers
       pushed-length = push .only .same-length ∙ set-there .same-length ∙ took .only .same-length
 
-      pushed-behind : drop (required (variablesOf book) (clausesOf book)) pushed ≡ drop (required (variablesOf book) (clausesOf book)) numbers
+      pushed-behind : drop (requiredLength (variablesOf book) (clausesOf book)) pushed ≡ drop (requiredLength (variablesOf book) (clausesOf book)) numbers
       pushed-behind = lists-behind (push .only) ∙ set-there .same-behind ∙ lists-behind (took .only)
 
       goes-on : Walking formula cells′ there q (at .passed) (at .unread) next
@@ -189,8 +186,8 @@ module _ {book numbers : List ℕ} {walk : Walk} {other : ℕ} {dead : Bool} (se
           (rw after-is (encodes-counted formula pushed movedRun pushed-encodes watched-after (visited-checks at) c made (clause-inside-formula at)))
           (rw after-is (length-set pushed place value ∙ pushed-length))
           (rw after-is
-          (drop-set-lt (requiredLength formula) pushed place value (let i = clause-inside-formula at in omega arith)
-          ∙ rw (← many-are) at pushed-behind))
+          (drop-set-lt (requiredLength (variablesOf book) (clausesOf book)) pushed place value (let i = clause-inside-formula at in omega (arith, clauses-counted book))
+          ∙ pushed-behind))
           (at .reading .going .quiet, (at .passed, goes-on))
         where
           place : ℕ
@@ -205,7 +202,7 @@ module _ {book numbers : List ℕ} {walk : Walk} {other : ℕ} {dead : Bool} (se
         → PushedFront vars many stored pushed literal (walk .node) → after ≡ countNums pushed count made → Visited book numbers after at (v.GoOn next)
     visited-moved vars many count literal {taken} {stored} {pushed} {after} next vars-is many-is count-is literal-is took stored-is push after-is =
         moved-visited (rw (vars-is, many-is) at took) (rw (vars-is, many-is) at stored-is) (rw (vars-is, many-is, literal-is) at push)
-        (after-is ∙ ap (λ (x : ℕ). countNums pushed x made) (omega (arith, clause-is at, many-are)))
+        (after-is ∙ ap (λ (x : ℕ). countNums pushed x made) (omega (arith, clause-is at, clauses-counted book)))
 
   -- no position is found
   module _ (made : ℕ) (missed : record { found = none; checks = made } ≡ scan trail clause cell) where
@@ -231,7 +228,7 @@ module _ {book numbers : List ℕ} {walk : Walk} {other : ℕ} {dead : Bool} (se
 
     count-place : (vars many count : ℕ) → vars ≡ variablesOf book → many ≡ clausesOf book → count ≡ checksAt vars many + (walk .node - 1) / 2
         → count ≡ place-count
-    count-place vars many count vars-is many-is count-is = omega (arith, clause-is at, many-are)
+    count-place vars many count vars-is many-is count-is = omega (arith, clause-is at, clauses-counted book)
 
     counted-encodes : Encodes formula countedNumbers countedRun
     counted-encodes =
@@ -240,10 +237,10 @@ module _ {book numbers : List ℕ} {walk : Walk} {other : ℕ} {dead : Bool} (se
     counted-length : length countedNumbers ≡ length numbers
     counted-length = length-set numbers place-count (min (getD numbers place-count 0 + made) maxCount)
 
-    counted-behind : SameBehind formula numbers countedNumbers
+    counted-behind : SameBehind book numbers countedNumbers
     counted-behind =
-        drop-set-lt (requiredLength formula) numbers place-count (min (getD numbers place-count 0 + made) maxCount)
-        (let i = clause-inside-formula at in omega arith)
+        drop-set-lt (requiredLength (variablesOf book) (clausesOf book)) numbers place-count (min (getD numbers place-count 0 + made) maxCount)
+        (let i = clause-inside-formula at in omega (arith, clauses-counted book))
 
     pub visited-conflict : dead ≡ true → (vars many count name : ℕ) (after : List ℕ) → vars ≡ variablesOf book → many ≡ clausesOf book
         → count ≡ checksAt vars many + (walk .node - 1) / 2
@@ -255,7 +252,7 @@ module _ {book numbers : List ℕ} {walk : Walk} {other : ℕ} {dead : Bool} (se
         visited-by at after v.Conflict (withConflict (suc c) countedRun) (visit-conflicts e)
         (rw final (encodes-conflict (suc c) (visited-watched at) counted-encodes))
         (rw final (length-set countedNumbers conflictAt (suc c) ∙ counted-length))
-        (rw final (drop-set-lt (requiredLength formula) countedNumbers conflictAt (suc c) (omega arith) ∙ counted-behind))
+        (rw final (drop-set-lt (requiredLength (variablesOf book) (clausesOf book)) countedNumbers conflictAt (suc c) (omega arith) ∙ counted-behind))
         (rw (ne-eqb (suc c) 0 (λ z. omega arith)))
       where
         name-next : name ≡ suc c
@@ -293,12 +290,12 @@ module _ {book numbers : List ℕ} {walk : Walk} {other : ℕ} {dead : Bool} (se
     visited-implied e vars many count level after next vars-is many-is count-is level-is after-is kept =
         visited-by at after (v.GoOn next) impliedRun implied encodes
         (rw final (beside .same-length ∙ counted-length))
-        (rw final (beside-behind beside (requiredLength formula) (omega arith) ∙ counted-behind)) (
+        (rw final (beside-behind beside (requiredLength (variablesOf book) (clausesOf book)) (omega arith) ∙ counted-behind)) (
           at .reading .going .quiet,
           (
             at .passed ++ (c ∷ []),
             kept .walking
-                (lists-of {run = impliedRun} vars many (sym vars-is) (many-are ∙ sym many-is) (well-sound at) (visited-watched at) encodes)
+                (lists-of {run = impliedRun} vars many (sym vars-is) (clauses-counted book ∙ sym many-is) (well-sound at) (visited-watched at) encodes)
                 (at .walking),
           ),
         )

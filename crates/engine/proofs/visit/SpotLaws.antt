@@ -11,9 +11,9 @@ use lib.ListN.{length, getD, take, drop, length-take, length-drop}
 use lib.Seq.{getD-take, getD-drop}
 use Rattle.book.specs.Formula.{Formula, variableOf, literalWithin, sound}
 use Rattle.book.specs.Numbers.{variablesOf, clausesOf, startOf, clauseStart, clauseAt, formulaOf, wellFormed}
-use Rattle.book.proofs.PartLaws.{clause-inside, clause-of-formula, length-clauses, length-clause}
+use Rattle.book.proofs.PartLaws.{clause-inside, clause-of-formula, clauses-counted, length-clause}
 use Rattle.book.proofs.SoundLaws.{literal-parts}
-use Rattle.book.proofs.WellFormedLaws.{well-formed-parted, well-formed-limited, well-formed-sound}
+use Rattle.book.proofs.WellFormedLaws.{well-formed-parted, well-formed-sound}
 use Rattle.base.specs.Lists.{distinct}
 use Rattle.run.specs.Trail.{Entry, variablesOn, isTrue, isFalse}
 use Rattle.run.specs.Run.{Run, clauseOf, size, cellOf, otherWatch, action, performAction, visit}
@@ -21,6 +21,7 @@ use Rattle.run.proofs.Clauses.{clause-exists, literal-within}
 use Rattle.run.specs.Progress.{Watched, Trailed}
 use Rattle.run.proofs.Visits.{Seen, seen}
 use Rattle.layout.specs.Layout.{Fits, valuesAt, watchesAt, nodeOf, valueSlot}
+use Rattle.layout.proofs.FitsLaws.{held-fits, session-fits}
 use Rattle.layout.specs.Encodes.{TrailHeld, Encodes}
 use Rattle.layout.specs.Values.{valueRead}
 use Rattle.layout.specs.declared.values.Value.{Value}
@@ -103,9 +104,6 @@ module _ {book numbers : List ℕ} {walk : Walk} (at : Visiting book numbers wal
   abbrev other : ℕ
   other = otherWatch (clauseOf (formulaOf book) (at .clause)) (cellOf (at .run) (at .clause)) (at .q)
 
-  clauses-counted : length (formula .clauses) ≡ clausesOf book
-  clauses-counted = length-clauses book 0 (clausesOf book)
-
   pub well-sound : sound (formulaOf book) ≡ true
   well-sound = well-formed-sound book (at .well)
 
@@ -119,7 +117,7 @@ module _ {book numbers : List ℕ} {walk : Walk} (at : Visiting book numbers wal
   visited-checks = at .reading .going .structure .counted .checks-length
 
   pub visited-lists : Lists (variablesOf book) (clausesOf book) numbers (formulaOf book) (at .run .cells) (at .run .lists)
-  visited-lists = lists-of (variablesOf book) (clausesOf book) refl clauses-counted well-sound visited-watched (at .encodes)
+  visited-lists = lists-of (variablesOf book) (clausesOf book) refl (clauses-counted book) well-sound visited-watched (at .encodes)
 
   pub visited-seen : Seen (formulaOf book) (at .q) (at .clause) (at .run)
   visited-seen = seen (at .reading)
@@ -132,13 +130,12 @@ module _ {book numbers : List ℕ} {walk : Walk} (at : Visiting book numbers wal
 
   pub spot : Spot book numbers walk
   spot =
-      let limits = well-formed-limited book (at .well) in
       let stands = walking-stands visited-lists (at .walking) in
       let others = other-bounds (walk .node) (clausesOf book) (stands .some) (stands .node-within) in
       record {
-        fits = record { few-variables = limits .variables; few-clauses = limits .clauses; long = visited-lists .long };
+        fits = session-fits (variablesOf book) (clausesOf book) refl refl (held-fits (at .well) (at .encodes));
         standing = stands;
-        inside = omega (arith, clause-is, clause-inside-formula, clauses-counted);
+        inside = omega (arith, clause-is, clause-inside-formula, clauses-counted book);
         other-low = others .0;
         other-high = others .1;
       }
@@ -161,7 +158,7 @@ module _ {book numbers : List ℕ} {walk : Walk} (at : Visiting book numbers wal
           → (start + watch < length book) × (getD book (start + watch) 0 ≡ getD (clauseOf formula c) p 0)
       read p e h =
           rw e
-          (spot-literal book (at .well) c p start (omega (arith, clause-inside-formula, clauses-counted)) h
+          (spot-literal book (at .well) c p start (omega (arith, clause-inside-formula, clauses-counted book)) h
           (begin ∙ ap (clauseStart book) clause-is))
 
       go : (b : Bool) → walk .node ≡ cond b (2 * c + 1) (2 * c + 2)
@@ -205,7 +202,7 @@ module _ {book numbers : List ℕ} {walk : Walk} (at : Visiting book numbers wal
   -- the run after a visit, whichever it is
   pub visited-by : (after : List ℕ) (r : Visit) (run : Run) → visit (formulaOf book) (at .q) (at .clause) (at .run) ≡ run
       → Encodes (formulaOf book) after run
-      → length after ≡ length numbers → SameBehind (formulaOf book) numbers after
+      → length after ≡ length numbers → SameBehind book numbers after
       → VisitSays (formulaOf book) (at .q) (at .unread) run r → Visited book numbers after at r
   visited-by after r run e encodes long behind says =
       record { encodes = rw e encodes; same-length = long; same-behind = behind; says = rw e says }

@@ -18,7 +18,7 @@ use Rattle.run.proofs.Trails.{untrue-place}
 use Rattle.run.specs.Progress.{Watched, Trailed}
 use Rattle.run.proofs.Propagation.{trailed-push}
 use Rattle.run.proofs.Validity.{trail-short}
-use Rattle.layout.specs.Layout.{Fits, TrailFits, lengthAt, decisionsAt, conflictAt, backtracksAt, trailAt, levelsAt, valuesAt, watchesAt, pointersAt, checksAt, required, nodeOf}
+use Rattle.layout.specs.Layout.{lengthAt, decisionsAt, conflictAt, backtracksAt, trailAt, levelsAt, valuesAt, watchesAt, pointersAt, checksAt, requiredLength, nodeOf}
 use Rattle.layout.specs.Encodes.{TrailHeld, Encodes}
 use Rattle.layout.proofs.ChainLaws.{watched-within}
 use Rattle.engine.specs.Inner.Trail.{SameBeside, assignNums}
@@ -27,12 +27,6 @@ use Rattle.engine.specs.Inner.Visit.{countNums, watchNums}
 use Rattle.engine.proofs.lists.FrameLaws.{held-outside, lists-kept}
 use Rattle.engine.proofs.trail.Laws.{held-implied, assign-beside}
 use Rattle.engine.proofs.StepLaws.{encodes-beside}
-
-pub fits-kept : {v n : ℕ} {s t : List ℕ} → length t ≡ length s → Fits v n s → Fits v n t
-fits-kept e f = record { few-variables = f .few-variables; few-clauses = f .few-clauses; long = omega (arith, f .long) }
-
-pub fits-trail : {v n : ℕ} {s : List ℕ} → Fits v n s → TrailFits v s
-fits-trail f = record { few-variables = f .few-variables; long = omega (arith, f .long) }
 
 -- A trail is held by the header's first two numbers and the numbers from the trail to the values.
 pub trail-frame : {v : ℕ} {s t : List ℕ} {trail : List Entry}
@@ -126,11 +120,11 @@ module _ (formula : Formula) (numbers : List ℕ) (run : Run) (e : Encodes formu
       beside = assign-beside (formula .variables) numbers l level (rw (e .trail .count) room) (bounds .0) (let b = bounds .1 in omega arith)
 
 -- A clause leaves or joins a list: only the lists changed.
-pub lists-behind : {v n : ℕ} {before after : List ℕ} → ListsOnly v n before after → drop (required v n) after ≡ drop (required v n) before
+pub lists-behind : {v n : ℕ} {before after : List ℕ} → ListsOnly v n before after → drop (requiredLength v n) after ≡ drop (requiredLength v n) before
 lists-behind {v} {n} {before} {after} only =
-    ext-getD 0 (drop (required v n) after) (drop (required v n) before)
-    (length-drop (required v n) after ∙ ap (λ (k : ℕ). k - required v n) (only .same-length) ∙ sym (length-drop (required v n) before))
-    (λ i k. getD-drop (required v n) after i 0 ∙ only .outside (required v n + i) (inr (omega arith)) ∙ sym (getD-drop (required v n) before i 0))
+    ext-getD 0 (drop (requiredLength v n) after) (drop (requiredLength v n) before)
+    (length-drop (requiredLength v n) after ∙ ap (λ (k : ℕ). k - requiredLength v n) (only .same-length) ∙ sym (length-drop (requiredLength v n) before))
+    (λ i k. getD-drop (requiredLength v n) after i 0 ∙ only .outside (requiredLength v n + i) (inr (omega arith)) ∙ sym (getD-drop (requiredLength v n) before i 0))
 
 pub encodes-lists : {v n : ℕ} {formula : Formula} {before after : List ℕ} {run : Run} (others : List (List ℕ)) → Encodes formula before run
     → ListsOnly v n before after → Lists v n after formula (run .cells) others → Encodes formula after (withWatches (run .cells) others run)
@@ -170,15 +164,15 @@ watch-length v n numbers node position =
     ∙ length-set numbers (watchesAt v + (node - 1)) position
 
 pub watch-behind : (v n : ℕ) (numbers : List ℕ) (node position : ℕ) → 1 ≤ node → node ≤ 2 * n
-    → drop (required v n) (watchNums v n numbers node position) ≡ drop (required v n) numbers
+    → drop (requiredLength v n) (watchNums v n numbers node position) ≡ drop (requiredLength v n) numbers
 watch-behind v n numbers node position low high =
-    drop-set-lt (required v n) (set numbers (watchesAt v + (node - 1)) position) (pointersAt v n + (node - 1) / 2) position (omega arith)
-    ∙ drop-set-lt (required v n) numbers (watchesAt v + (node - 1)) position (omega arith)
+    drop-set-lt (requiredLength v n) (set numbers (watchesAt v + (node - 1)) position) (pointersAt v n + (node - 1) / 2) position (omega arith)
+    ∙ drop-set-lt (requiredLength v n) numbers (watchesAt v + (node - 1)) position (omega arith)
 
 -- the numbers after it
 pub record WatchSet (v n : ℕ) (formula : Formula) (before numbers : List ℕ) (after : List Cell) (run : Run) : Type 0 where
   pub same-length : length numbers ≡ length before
-  pub same-behind : drop (required v n) numbers ≡ drop (required v n) before
+  pub same-behind : drop (requiredLength v n) numbers ≡ drop (requiredLength v n) before
   pub lists-are : Lists v n numbers formula after (run .lists)
   pub encodes : Encodes formula numbers (withWatches after (run .lists) run)
 

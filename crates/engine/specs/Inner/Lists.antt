@@ -9,7 +9,7 @@ use Rattle.base.specs.Lists.{times}
 use Rattle.book.specs.Formula.{Formula}
 use Rattle.run.specs.Scan.{Cell}
 use Rattle.run.specs.Run.{size, listOf, pushFront, takeOut}
-use Rattle.layout.specs.Layout.{headsAt, required, nodeOf, firstNode, chainFrom, headSlot}
+use Rattle.layout.specs.Layout.{headsAt, requiredLength, nodeOf, firstNode, chainFrom, headSlot}
 use Rattle.layout.specs.Encodes.{nodesOf, endSlot, ListsHeld}
 use Rattle.engine.specs.declared.lists.Walk.{Walk}
 
@@ -28,7 +28,7 @@ pub record Orderly (formula : Formula) (cells : List Cell) (lists : List (List �
 pub record Lists (v n : ℕ) (numbers : List ℕ) (formula : Formula) (cells : List Cell) (lists : List (List ℕ)) : Type 0 where
   pub variables-are : formula .variables ≡ v
   pub clauses-are : length (formula .clauses) ≡ n
-  pub long : required v n ≤ length numbers
+  pub long : requiredLength v n ≤ length numbers
   pub many : length lists ≡ 2 * v + 2
   pub held : ListsHeld formula numbers cells lists
   pub orderly : Orderly formula cells lists
@@ -47,7 +47,7 @@ pub record Standing (v n : ℕ) (walk : Walk) : Type 0 where
   pub some : 1 ≤ walk .node
   pub node-within : walk .node ≤ 2 * n
   pub slot-low : listsAt v n ≤ walk .slot
-  pub slot-within : walk .slot < required v n
+  pub slot-within : walk .slot < requiredLength v n
 
 -- how many clauses are left
 unfoldable pub leftOf : ℕ → ℕ → List ℕ → Walk → ℕ
@@ -66,7 +66,7 @@ pub record KeptOn (v n : ℕ) (numbers : List ℕ) (walk next : Walk) : Type 0 w
 -- only numbers of the lists changed
 pub record ListsOnly (v n : ℕ) (before after : List ℕ) : Type 0 where
   pub same-length : length after ≡ length before
-  pub outside : (x : ℕ) → (x < listsAt v n) ⊎ (required v n ≤ x) → getD after x 0 ≡ getD before x 0
+  pub outside : (x : ℕ) → (x < listsAt v n) ⊎ (requiredLength v n ≤ x) → getD after x 0 ≡ getD before x 0
 
 -- the clause that a walk stood at is taken out of its list, and the walk goes on
 pub record TakenOut (v n : ℕ) (before after : List ℕ) (walk next : Walk) : Type 0 where

@@ -31,7 +31,7 @@ pub record FirstWatches (book numbers : List ℕ) (c : ℕ) : Type 0 where
 -- the first watches of clause c
 pub record WatchedFirst (book before after : List ℕ) (c : ℕ) : Type 0 where
   pub same-length : length after ≡ length before
-  pub same-behind : SameBehind (formulaOf book) before after
+  pub same-behind : SameBehind book before after
   pub holds : FirstWatches book before c → FirstWatches book after (c + 1)
 
 -- the one-literal clauses before clause c are true

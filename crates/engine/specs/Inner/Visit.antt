@@ -42,7 +42,7 @@ VisitSays formula q unread after v.Conflict = inConflict after ≡ true
 pub record Visited (book before after : List ℕ) {walk : Walk} (at : Visiting book before walk) (r : Visit) : Type 0 where
   pub encodes : Encodes (formulaOf book) after (visit (formulaOf book) (at .q) (at .clause) (at .run))
   pub same-length : length after ≡ length before
-  pub same-behind : SameBehind (formulaOf book) before after
+  pub same-behind : SameBehind book before after
   pub says : VisitSays (formulaOf book) (at .q) (at .unread) (visit (formulaOf book) (at .q) (at .clause) (at .run)) r
 
 -- the other node of a clause

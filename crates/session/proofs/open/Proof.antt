@@ -18,7 +18,7 @@ returns : tie.Need-returns
 returns c = open-refused (start (c .before) .args .book .now) (start (c .before) .args .session .now) _ (c .before .open-refusal .ensures) (c .if1 .taken)
 
 open-requires : tie.Need-open-requires
-open-requires c κs = open-accepted (start (c .before .before) .args .book .now) _ (sym (sym (c .before .if1 .left) ∙ c .before .before .open-refusal .ensures))
+open-requires c κs = open-accepted (start (c .before .before) .args .book .now) (start (c .before .before) .args .session .now) (sym (sym (c .before .if1 .left) ∙ c .before .before .open-refusal .ensures))
 
 answered-requires : tie.Need-answered-requires
 answered-requires c κs = (omega (arith, c .before .before .before .open .ensures .encodes .long), omega arith)

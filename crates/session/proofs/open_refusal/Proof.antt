@@ -6,10 +6,10 @@ use mathlib.Core.Path.{_≡_, sym, ap₂, _∙_}
 use native.Mathlib.Omega.{arith}
 use borrow.Author.Needs.{needs}
 use borrow.Author.Tests.{not-true, not-false}
-use Rattle.book.specs.Numbers.{wellFormed, formulaOf}
+use Rattle.book.specs.Numbers.{variablesOf, clausesOf, wellFormed}
 use Rattle.book.proofs.WellFormedLaws.{well-formed-limited}
-use Rattle.layout.specs.Layout.{required, requiredLength}
-use Rattle.session.proofs.OpenLaws.{required-is-length, open-eleven, open-ten, open-none}
+use Rattle.layout.specs.Layout.{requiredLength}
+use Rattle.session.proofs.OpenLaws.{open-eleven, open-ten, open-none}
 use Rattle.session.proofs.open_refusal.Statement.{statement}
 use Rattle.session.proofs.open_refusal.Tie as tie
 
@@ -35,15 +35,15 @@ variables-requires c κs = search needs
 clauses-requires : tie.Need-clauses-requires
 clauses-requires c κs = search needs
 
-required-requires : tie.Need-required-requires
-required-requires c κs =
+required-length-requires : tie.Need-required-length-requires
+required-length-requires c κs =
     let limited = well-formed-limited (book (c .before .before)) (well (c .before .before)) in
     (omega (arith, c .before .variables .ensures), omega (arith, c .clauses .ensures))
 
 -- the length that was computed is the required one
-length-is : (c : tie.After-required) → c .required .result ≡ requiredLength (formulaOf (book (c .before .before .before)))
+length-is : (c : tie.After-required-length) → c .required-length .result ≡ requiredLength (variablesOf (book (c .before .before .before))) (clausesOf (book (c .before .before .before)))
 length-is c =
-    c .required .ensures ∙ ap₂ required (c .before .before .variables .ensures) (c .before .clauses .ensures) ∙ required-is-length (book (c .before .before .before))
+    c .required-length .ensures ∙ ap₂ requiredLength (c .before .before .variables .ensures) (c .before .clauses .ensures)
 
 returns-2 : tie.Need-returns-2
 returns-2 c =
@@ -63,6 +63,6 @@ open-refusal-spec =
     returns
     variables-requires
     clauses-requires
-    required-requires
+    required-length-requires
     returns-2
     returns-3)

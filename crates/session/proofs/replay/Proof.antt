@@ -41,7 +41,7 @@ returns c =
     (out .0, (out .1, λ z. absurd (c .if1 .taken (c .before .open-refusal .ensures ∙ z))))
 
 open-requires : tie.Need-open-requires Inv-loop μ-loop
-open-requires c κs = open-accepted (start (c .before .before) .args .book .now) _ (sym (sym (c .before .if1 .left) ∙ c .before .before .open-refusal .ensures))
+open-requires c κs = open-accepted (start (c .before .before) .args .book .now) (start (c .before .before) .args .session .now) (sym (sym (c .before .if1 .left) ∙ c .before .before .open-refusal .ensures))
 
 loop-holds : tie.Need-loop-holds Inv-loop μ-loop
 loop-holds c =

@@ -5,18 +5,19 @@ use native.Mathlib.Omega.{arith}
 use mathlib.Core.Bool.{true, false}
 use mathlib.Core.List.{List, []}
 use mathlib.Core.Logic.{_⊎_, ⊎-elim}
-use mathlib.Core.Path.{_≡_, ap, _∙_}
+use mathlib.Core.Path.{_≡_, refl, ap, _∙_}
 use borrow.Author.Tests.{lt-ltb, le-ltb, le-leb, lt-leb, eq-eqb, ne-eqb}
 use lib.Dec.{eqb}
 use lib.ListN.{length, getD, List·getD-eq-default}
 use Rattle.base.proofs.Bools.{below, never}
 use Rattle.book.specs.Formula.{Formula}
 use Rattle.book.specs.Numbers.{variablesOf, clausesOf, clauseStart, formulaOf, wellFormed}
-use Rattle.book.proofs.PartLaws.{length-clauses, clause-of-formula, length-clause}
-use Rattle.book.proofs.WellFormedLaws.{well-formed-parted, well-formed-limited}
+use Rattle.book.proofs.PartLaws.{clauses-counted, clause-of-formula, length-clause}
+use Rattle.book.proofs.WellFormedLaws.{well-formed-parted}
 use Rattle.run.specs.Scan.{Cell}
 use Rattle.run.specs.Run.{size, noCell, cellAt}
-use Rattle.layout.specs.Layout.{Fits, watchesAt, pointersAt, requiredLength, held}
+use Rattle.layout.specs.Layout.{Fits, SessionFits, watchesAt, pointersAt, held}
+use Rattle.layout.proofs.FitsLaws.{session-fits}
 use Rattle.validation.specs.Validation.{isWatching}
 use Rattle.validation.specs.Inner.Says.{Says}
 use Rattle.validation.specs.Inner.Cells.{CellsGood}
@@ -100,20 +101,15 @@ module _ (book : List ℕ) (well : wellFormed book ≡ true) where
       let next : clauseStart book (d + 1) ≡ clauseStart book (suc d) = ap (clauseStart book) (add-one d) in
       ap length (clause-of-formula book d h) ∙ length-clause book (well-formed-parted book well) d h ∙ (omega arith)
 
-  pub clauses-count : length (formulaOf book .clauses) ≡ clausesOf book
-  clauses-count = length-clauses book 0 (clausesOf book)
-
-  module _ (numbers : List ℕ) (fits : requiredLength (formulaOf book) ≤ length numbers) where
-    pub cells-none : (clauses watches pointers variables : ℕ) → clauses ≡ clausesOf book → variables ≡ variablesOf book
+  module _ (numbers : List ℕ) where
+    pub cells-none : SessionFits book numbers → (clauses watches pointers variables : ℕ) → clauses ≡ clausesOf book → variables ≡ variablesOf book
         → watches ≡ watchesAt variables → pointers ≡ pointersAt variables clauses → CellsPassed book numbers clauses watches pointers 0
-    cells-none clauses watches pointers variables a b e f =
-        let limits = well-formed-limited book well in
-        let count = clauses-count in
+    cells-none fits clauses watches pointers variables a b e f =
         record {
           clauses-are = a;
           watches-are = omega arith;
           pointers-are = omega arith;
-          fits = record { few-variables = limits .variables; few-clauses = omega arith; long = omega arith };
+          fits = session-fits (variablesOf book) clauses refl a fits;
           bound = omega arith;
           passed = λ d h. absurd (omega arith);
         }
@@ -126,8 +122,8 @@ module _ (book : List ℕ) (well : wellFormed book ≡ true) where
           ≡ isWatching (size (formulaOf book) c) (cellAt (held (formulaOf book) numbers .cells) c)
       cell-read s e begin end n-is =
           let inside : c < clausesOf book = omega arith in
-          let within : c < length (formulaOf book .clauses) = omega (arith, clauses-count) in
-          let at : pointersAt (variablesOf book) (length (formulaOf book .clauses)) + c ≡ pointers + c = omega (arith, clauses-count) in
+          let within : c < length (formulaOf book .clauses) = omega (arith, clauses-counted book) in
+          let at : pointersAt (variablesOf book) (length (formulaOf book .clauses)) + c ≡ pointers + c = omega (arith, clauses-counted book) in
           rw (held-cell (formulaOf book) numbers c within, size-read c s e inside begin end, at, k .watches-are, n-is)
 
     pub cells-more : (clauses watches pointers c : ℕ) → CellsPassed book numbers clauses watches pointers c → c < clauses
@@ -147,11 +143,11 @@ module _ (book : List ℕ) (well : wellFormed book ≡ true) where
 
     clause-none : (d : ℕ) → clausesOf book ≤ d → size (formulaOf book) d ≡ 0
     clause-none d h =
-        ap length (List·getD-eq-default (formulaOf book .clauses) [] (omega (arith, clauses-count)))
+        ap length (List·getD-eq-default (formulaOf book .clauses) [] (omega (arith, clauses-counted book)))
 
     cell-none : (d : ℕ) → clausesOf book ≤ d → cellAt (held (formulaOf book) numbers .cells) d ≡ noCell
     cell-none d h =
-        List·getD-eq-default (held (formulaOf book) numbers .cells) noCell (omega (arith, held-cells-length (formulaOf book) numbers, clauses-count))
+        List·getD-eq-default (held (formulaOf book) numbers .cells) noCell (omega (arith, held-cells-length (formulaOf book) numbers, clauses-counted book))
 
     pub cells-all : (clauses watches pointers c : ℕ) → CellsPassed book numbers clauses watches pointers c → clauses ≤ c
         → Says true (CellsGood (formulaOf book) numbers)

@@ -9,7 +9,7 @@ use lib.Dec.{eqb}
 use lib.ListN.{length, getD}
 use Rattle.base.proofs.Lists.{part}
 use Rattle.book.specs.Numbers.{variablesOf, clausesOf, clauseStart, clauseAt, formulaOf}
-use Rattle.book.proofs.PartLaws.{clause-between, length-clauses, clause-of-formula}
+use Rattle.book.proofs.PartLaws.{clause-between, clauses-counted, clause-of-formula}
 use Rattle.run.specs.Trail.{Entry, opposite, place, level, lowered}
 use Rattle.run.specs.Scan.{Cell}
 use Rattle.run.specs.Run.{clauseOf, size, cellOf}
@@ -148,7 +148,7 @@ module _ (book numbers : List ℕ) (below : Bool) where
         × (cellOf (held (formulaOf book) numbers) c .second ≡ getD numbers (watchesAt (variablesOf book) + 2 * c + 1) 0)
     unfolding held
     cell-at c less =
-        let inside : c < length (formulaOf book .clauses) = rw (length-clauses book 0 (clausesOf book)) less in
+        let inside : c < length (formulaOf book .clauses) = rw (clauses-counted book) less in
         let here : 0 + c ≡ c = omega arith in
         let cell = getD-cells (variablesOf book) (length (formulaOf book .clauses)) numbers 0 (length (formulaOf book .clauses)) c inside in (
           ap (λ (k : Cell). k .first) cell ∙ ap (λ (k : ℕ). getD numbers (watchesAt (variablesOf book) + 2 * k) 0) here,
@@ -182,7 +182,7 @@ module _ (book numbers : List ℕ) (below : Bool) where
         }
       where
         inside : (c : ℕ) → 0 < size (formulaOf book) c → c < clausesOf book
-        inside c some = rw (length-clauses book 0 (clausesOf book)) at (clause-exists (formulaOf book) c some)
+        inside c some = rw (clauses-counted book) at (clause-exists (formulaOf book) c some)
 
         unit : (c : ℕ) → size (formulaOf book) c ≡ 1 → height trail (literal c) ≡ 1
         unit c one =

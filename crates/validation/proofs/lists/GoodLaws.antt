@@ -13,8 +13,9 @@ use Rattle.base.proofs.Bools.{alike, below}
 use Rattle.base.proofs.Members.{times-same, times-other}
 use Rattle.base.proofs.Pigeonhole.{pigeonhole}
 use Rattle.book.specs.Formula.{Formula, sound}
-use Rattle.book.specs.Numbers.{variablesOf, clausesOf, formulaOf, wellFormed}
-use Rattle.book.proofs.WellFormedLaws.{well-formed-limited, well-formed-sound}
+use Rattle.book.specs.Numbers.{variablesOf, clausesOf, formulaOf}
+use Rattle.book.proofs.PartLaws.{clauses-counted}
+use Rattle.book.proofs.WellFormedLaws.{well-formed-sound}
 use Rattle.run.specs.Scan.{Cell}
 use Rattle.run.specs.Run.{clauseOf, size, listOf, cellAt}
 use Rattle.run.specs.Valid.{one, standing}
@@ -22,12 +23,12 @@ use Rattle.run.proofs.Clauses.{clause-exists, literal-within}
 use Rattle.book.proofs.SoundLaws.{literal-parts}
 use Rattle.run.specs.Progress.{firstLiteral, secondLiteral, Watched}
 use Rattle.run.proofs.WatchLists.{listed-size, literals-differ}
-use Rattle.layout.specs.Layout.{headsAt, requiredLength, watchLiteral, nodeOf, chainFrom, held, headSlot, linkSlot}
+use Rattle.layout.specs.Layout.{headsAt, watchLiteral, nodeOf, chainFrom, held, headSlot, linkSlot}
 use Rattle.layout.specs.Encodes.{Chain, nodesOf}
 use Rattle.validation.specs.Inner.Says.{Says}
 use Rattle.validation.specs.Inner.Cells.{CellsGood}
 use Rattle.validation.specs.Inner.Lists.{ListsGood, ownerIn, Looking, ListGood, Met, AllSays, NodesGood}
-use Rattle.validation.proofs.cells.Laws.{held-cell, held-cells-length, clauses-count}
+use Rattle.validation.proofs.cells.Laws.{held-cell, held-cells-length}
 use Rattle.layout.proofs.ChainLaws.{node-cases, node-clause, node-positive, node-within, AtNode, at-node, node-literal, watched-once}
 use Rattle.base.proofs.ForAll.{member-times}
 use Rattle.layout.proofs.HeldLaws.{length-lists, getD-lists, chain-held}
@@ -121,7 +122,7 @@ module _ (book numbers : List ℕ) (k : Looking book numbers) where
   s = well-formed-sound book (k .well)
 
   many-is : length (formula .clauses) ≡ clausesOf book
-  many-is = clauses-count book (k .well)
+  many-is = clauses-counted book
 
   -- the literal of a node, by its clause
   owner-few : (n : ℕ) → size formula (half n) < 2 → owner n ≡ 0
@@ -368,17 +369,6 @@ module _ (book numbers : List ℕ) (k : Looking book numbers) where
                   rw (m .exact n own, same) listed
 
 -- what lists_pass answers
-pub looking : (book numbers : List ℕ) → wellFormed book ≡ true → requiredLength (formulaOf book) ≤ length numbers
-    → CellsGood (formulaOf book) numbers → Looking book numbers
-looking book numbers well long cells =
-    let limits = well-formed-limited book well in
-    let count = clauses-count book well in
-    record {
-      well = well;
-      fits = record { few-variables = limits .variables; few-clauses = limits .clauses; long = omega arith };
-      cells = cells;
-    }
-
 pub lists-refused : (book numbers marks : List ℕ) → Looking book numbers → (r : Bool) → r ≡ false → AllSays book numbers marks r
     → Says false (ListsGood (formulaOf book) numbers)
 lists-refused book numbers marks k r e says = says-false (λ good. says .no e (list-passes book numbers k good))

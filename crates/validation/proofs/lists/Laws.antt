@@ -14,14 +14,14 @@ use Rattle.base.proofs.Bools.{alike, below, never}
 use Rattle.base.proofs.Members.{times-same, times-other}
 use Rattle.book.specs.Formula.{maxClauses}
 use Rattle.book.specs.Numbers.{variablesOf, clausesOf, startOf, clauseStart, formulaOf}
-use Rattle.book.proofs.PartLaws.{clause-inside, clause-of-formula, length-clause}
+use Rattle.book.proofs.PartLaws.{clauses-counted, clause-inside, clause-of-formula, length-clause}
 use Rattle.book.proofs.WellFormedLaws.{well-formed-parted}
 use Rattle.run.specs.Run.{clauseOf, size, cellAt}
 use Rattle.layout.specs.Layout.{watchesAt, watchLiteral, held, headSlot, linkSlot}
 use Rattle.layout.specs.Encodes.{Chain, endSlot}
 use Rattle.validation.specs.Inner.Says.{Says}
 use Rattle.validation.specs.Inner.Lists.{ownerIn, Looking, ListGood, Marks, ListMarked, ListSays, Met, AllSays, NodeGood, NodesGood}
-use Rattle.validation.proofs.cells.Laws.{held-cell, clauses-count, size-read}
+use Rattle.validation.proofs.cells.Laws.{held-cell, size-read}
 use Rattle.validation.proofs.places.Laws.{Room}
 use Rattle.validation.proofs.SaysLaws.{says-true, says-false, says-equal}
 use Rattle.base.proofs.Occurrences.{times-append}
@@ -62,7 +62,7 @@ module _ (book numbers : List ℕ) (k : Looking book numbers) (node d s e : ℕ)
     watch-read = ⊎-elim odd even (alike (node % 2) 1)
       where
         within : d < length (formulaOf book .clauses)
-        within = let z = inside in omega (arith, clauses-count book (k .well))
+        within = let z = inside in omega (arith, clauses-counted book)
 
         odd : node % 2 ≡ 1
             → (p < size (formulaOf book) d)

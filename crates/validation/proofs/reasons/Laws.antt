@@ -17,7 +17,7 @@ use Rattle.base.proofs.Lists.{all-at, getD-alike, part}
 use Rattle.book.specs.Formula.{Formula, literalWithin, soundClause}
 use Rattle.book.specs.Numbers.{variablesOf, clausesOf, clauseStart, clauseAt, formulaOf}
 use Rattle.book.proofs.SoundLaws.{clause-parts, literal-parts}
-use Rattle.book.proofs.PartLaws.{clause-between, length-clauses, clause-of-formula}
+use Rattle.book.proofs.PartLaws.{clause-between, clauses-counted, clause-of-formula}
 use Rattle.run.specs.Trail.{Entry, opposite, place, isFalse, variablesOn}
 use Rattle.run.specs.Run.{clauseOf}
 use Rattle.run.specs.Valid.{Reason, Justified}
@@ -255,7 +255,7 @@ module _ (book numbers : List ℕ) (x : TrailPassed book numbers) (i : ℕ) (les
   reason-implies r =
       let where-l = position l (clauseOf (formulaOf book) (r .clause)) (r .holds) in
       let exists : r .clause < clausesOf book =
-      rw (length-clauses book 0 (clausesOf book)) at (clause-exists (formulaOf book) (r .clause) (omega arith)) in
+      rw (clauses-counted book) at (clause-exists (formulaOf book) (r .clause) (omega arith)) in
       let same : clauseOf (formulaOf book) (r .clause) ≡ clauseAt book (r .clause) = clause-of-formula book (r .clause) exists in (
         r .clause,
         exists,

@@ -1,17 +1,18 @@
 -- `session_passes` meets its contract: each early return answers a condition that fails, and the last answer decides. Assumes nothing.
 use Prim.Native.Nat.{ℕ, _-_, _≤_, _<_}
 use native.Mathlib.Omega.{arith}
-use mathlib.Core.Path.{_≡_, sym}
+use mathlib.Core.Path.{_≡_, refl, sym}
 use borrow.Author.Tests.{not-true, not-false}
 use lib.ListN.{length, getD}
 use Rattle.book.specs.Numbers.{formulaOf}
 use Rattle.book.proofs.WellFormedLaws.{well-formed-limited}
 use Rattle.run.specs.Run.{maxCount}
-use Rattle.layout.specs.Layout.{decisionsAt, conflictAt, requiredLength}
+use Rattle.layout.specs.Layout.{SessionFits, decisionsAt, conflictAt}
+use Rattle.layout.proofs.FitsLaws.{session-fits, session-trail-fits}
 use Rattle.validation.specs.Inner.Conflict.{AllFalse}
 use Rattle.validation.specs.Inner.Places.{TrailPassed}
 use Rattle.validation.proofs.SaysLaws.{says-test}
-use Rattle.validation.proofs.ValidateLaws.{Built, long-at, short-at, trail-to, trail-from, conflict-to, conflict-from, parts-pass, passes-parts, parts-fail}
+use Rattle.validation.proofs.ValidateLaws.{Built, short-at, trail-to, trail-from, conflict-to, conflict-from, parts-pass, passes-parts, parts-fail}
 use Rattle.validation.proofs.session_passes.Statement.{statement}
 use Rattle.validation.proofs.session_passes.Tie as tie
 
@@ -40,8 +41,8 @@ variables-requires c κs = tt
 clauses-requires : tie.Need-clauses-requires
 clauses-requires c κs = tt
 
-required-requires : tie.Need-required-requires
-required-requires c κs = omega (arith, well-formed-limited _ (c .before .before .before .before .pre))
+required-length-requires : tie.Need-required-length-requires
+required-length-requires c κs = omega (arith, well-formed-limited _ (c .before .before .before .before .pre))
 
 returns : tie.Need-returns
 returns c =
@@ -51,10 +52,8 @@ returns c =
     (omega arith))
 
 -- the session is long enough
-enough : (c : tie.Else1) → requiredLength (formulaOf (start-1 c .args .book .now)) ≤ length (start-1 c .args .session .now)
-enough c =
-    let start = start-1 c in
-    long-at (start .args .book .now) (start .args .session .now) _ (c .before .before .before .variables .ensures) _ (c .before .before .clauses .ensures) (omega arith)
+enough : (c : tie.Else1) → SessionFits (start-1 c .args .book .now) (start-1 c .args .session .now)
+enough c = record { well = start-1 c .pre; long = omega (arith, c .before .before .before .variables .ensures, c .before .before .clauses .ensures) }
 
 shared-slice-read-wide : tie.Need-shared-slice-read-wide
 shared-slice-read-wide c = omega arith
@@ -73,8 +72,8 @@ returns-3 c = parts-fail _ _ (start-1 (length-of (c .before)) .pre) (λ p. omega
 
 trail-passes-requires : tie.Need-trail-passes-requires
 trail-passes-requires c κs =
-    let limited = well-formed-limited _ (start-1 (length-of (c .before)) .pre) in
-    (omega arith, record { few-variables = omega arith; long = omega arith })
+    let long = length-of (c .before) in
+    (omega (arith, well-formed-limited _ (start-1 long .pre)), session-trail-fits _ (long .before .before .before .variables .ensures) (enough long))
 
 returns-4 : tie.Need-returns-4
 returns-4 c =
@@ -91,8 +90,7 @@ passed c =
     let long = length-of (c .before .before .before) in
     let start = start-4 c in
     record {
-      well = start .pre;
-      long = enough long;
+      fits = enough long;
       good =
           trail-to (start .args .book .now) (start .args .session .now) _ (long .before .before .before .variables .ensures)
           (c .before .trail-passes .ensures .yes (not-false _ (c .if4 .left)));
@@ -106,7 +104,7 @@ returns-5 c =
     parts-fail _ _ (start-4 (c .before .before) .pre) (λ p. c .before .justified .ensures .no (not-true _ (c .if5 .taken)) (p .built .reasons))
 
 cells-pass-requires : tie.Need-cells-pass-requires
-cells-pass-requires c κs = (start-4 (c .before .before) .pre, passed (c .before .before) .long)
+cells-pass-requires c κs = passed (c .before .before) .fits
 
 returns-6 : tie.Need-returns-6
 returns-6 c =
@@ -115,7 +113,8 @@ returns-6 c =
 lists-pass-requires : tie.Need-lists-pass-requires
 lists-pass-requires c κs =
     let trail = c .before .before .before .before in
-    (start-4 trail .pre, passed trail .long, c .before .cells-pass .ensures .yes (not-false _ (c .if6 .left)))
+    let fits = passed trail .fits in
+    record { well = fits .well; fits = session-fits _ _ refl refl fits; cells = c .before .cells-pass .ensures .yes (not-false _ (c .if6 .left)) }
 
 returns-7 : tie.Need-returns-7
 returns-7 c =
@@ -126,7 +125,7 @@ built : (c : tie.Else7) → Built (start-7 c .args .book .now) (start-7 c .args 
 built c =
     let trail = passed (trail-of (c .before)) in
     record {
-      long = trail .long;
+      fits = trail .fits;
       conflict-within = omega arith;
       backtracks-within = omega arith;
       trail = trail .good;
@@ -224,7 +223,7 @@ session-passes-spec =
     (tie.spec
     variables-requires
     clauses-requires
-    required-requires
+    required-length-requires
     returns
     shared-slice-read-wide
     wide-requires

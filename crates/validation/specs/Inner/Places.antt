@@ -1,12 +1,11 @@
 -- What the contracts of src/places.rt cite, and of all that reads a trail that passed: when it may be read, and which trail it is.
-use Prim.Native.Nat.{ℕ, _≤_}
-use mathlib.Core.Path.{_≡_}
-use mathlib.Core.Bool.{Bool, true, cond}
+use Prim.Native.Nat.{ℕ}
+use mathlib.Core.Bool.{Bool, cond}
 use mathlib.Core.List.{List}
-use lib.ListN.{length, getD}
-use Rattle.book.specs.Numbers.{variablesOf, formulaOf, wellFormed}
+use lib.ListN.{getD}
+use Rattle.book.specs.Numbers.{variablesOf}
 use Rattle.run.specs.Trail.{Entry, lowered}
-use Rattle.layout.specs.Layout.{lengthAt, TrailFits, requiredLength, heldTrail}
+use Rattle.layout.specs.Layout.{lengthAt, TrailFits, SessionFits, heldTrail}
 use Rattle.validation.specs.Inner.Trail.{TrailGood}
 
 -- numbers whose trail may be read
@@ -14,10 +13,9 @@ pub record Readable (v : ℕ) (numbers : List ℕ) : Type 0 where
   pub fits : TrailFits v numbers
   pub good : TrailGood v numbers
 
--- numbers of a well-formed book's length, whose trail passed
+-- numbers that are long enough for a session on their book, whose trail passed
 pub record TrailPassed (book numbers : List ℕ) : Type 0 where
-  pub well : wellFormed book ≡ true
-  pub long : requiredLength (formulaOf book) ≤ length numbers
+  pub fits : SessionFits book numbers
   pub good : TrailGood (variablesOf book) numbers
 
 abbrev pub trailOf : ℕ → List ℕ → List Entry

@@ -9,6 +9,7 @@ use lib.ListN.{length, getD}
 use Rattle.book.specs.Numbers.{variablesOf, clauseAt, formulaOf}
 use Rattle.book.proofs.PartLaws.{clause-of-formula}
 use Rattle.book.proofs.WellFormedLaws.{Limited, well-formed-limited}
+use Rattle.layout.proofs.FitsLaws.{held-fits, session-trail-fits}
 use Rattle.run.specs.Run.{clauseOf, size}
 use Rattle.layout.specs.Layout.{TrailFits}
 use Rattle.engine.specs.Inner.Trail.{assignNums}
@@ -57,9 +58,7 @@ limited c = well-formed-limited (book c) (start c .pre .0 .well)
 
 -- the trail's parts are there
 fits : (c : tie.After-clause-start2) → TrailFits (c .before .before .variables .result) (start c .args .session .now)
-fits c =
-    let same = c .before .before .variables .ensures in
-    record { few-variables = omega (arith, limited c .variables); long = omega (arith, start c .pre .0 .encodes .long) }
+fits c = session-trail-fits _ (c .before .before .variables .ensures) (held-fits (start c .pre .0 .well) (start c .pre .0 .encodes))
 
 sub-if1 : tie.Need-sub-if1
 sub-if1 c = clause-at c .rises

@@ -4,7 +4,6 @@ use mathlib.Core.Path.{_≡_, refl, _∙_}
 use native.Mathlib.Omega.{arith}
 use borrow.Author.Needs.{needs}
 use lib.ListN.{length}
-use Rattle.book.specs.Numbers.{formulaOf}
 use Rattle.engine.specs.Engine.{SameBehind}
 use Rattle.engine.specs.Inner.Opening.{FirstWatches}
 use Rattle.engine.proofs.opening.FirstWatchLaws.{watches-begin, watches-end}
@@ -13,7 +12,7 @@ use Rattle.engine.proofs.opening.watch_all.Tie as tie
 
 abbrev Inv-loop : tie.InvT-loop
 Inv-loop book session₀ clauses c₀ session c =
-    (c ≤ clauses) × (length session ≡ length session₀) × SameBehind (formulaOf book) session₀ session × FirstWatches book session c
+    (c ≤ clauses) × (length session ≡ length session₀) × SameBehind book session₀ session × FirstWatches book session c
 
 abbrev μ-loop : tie.MeasureT-loop
 μ-loop book session₀ clauses c₀ session c = clauses - c
@@ -24,13 +23,13 @@ clauses-requires c κs = search needs
 loop-holds : tie.Need-loop-holds Inv-loop μ-loop
 loop-holds c =
     let s = c .before .before .before in
-    (omega arith, refl, refl, watches-begin (s .args .book .now) (s .args .session .now) (s .pre .1) (s .pre .2))
+    (omega arith, refl, refl, watches-begin (s .args .book .now) (s .args .session .now) (s .pre .0) (s .pre .1))
 
 watch-clause-requires : tie.Need-watch-clause-requires Inv-loop μ-loop
 watch-clause-requires c κs =
     let s = c .before .before .before .before .before .before in
     let inv = c .before .before .loop .inv in
-    (s .pre .0, omega (arith, inv .1, s .pre .1), omega (arith, c .before .before .before .clauses .ensures))
+    (record { well = s .pre .0 .well; long = omega (arith, inv .1, s .pre .0 .long) }, omega (arith, c .before .before .before .clauses .ensures))
 
 add-c : tie.Need-add-c Inv-loop μ-loop
 add-c c = omega arith

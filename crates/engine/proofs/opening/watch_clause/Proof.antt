@@ -5,10 +5,8 @@ use mathlib.Core.Path.{_≡_, ap, _∙_}
 use native.Mathlib.Omega.{arith}
 use lib.ListN.{length, getD, length-set}
 use Rattle.book.specs.Numbers.{variablesOf, clausesOf, clauseAt}
-use Rattle.book.proofs.PartLaws.{length-clauses}
-use Rattle.book.proofs.WellFormedLaws.{well-formed-limited}
 use Rattle.layout.specs.Layout.{Fits}
-use Rattle.engine.proofs.visit.StoreLaws.{fits-kept}
+use Rattle.layout.proofs.FitsLaws.{session-fits, fits-kept}
 use Rattle.engine.proofs.opening.Laws.{ClauseRead, clause-read}
 use Rattle.engine.proofs.opening.FirstWatchLaws.{first-none, first-some}
 use borrow.Author.Needs.{needs}
@@ -56,22 +54,14 @@ clauses-are c = c .before .before .clauses .ensures
 clause-at : (c : tie.After-clause-start2) → ClauseRead (book c) (start c .args .c) (c .before .clause-start .result) (c .clause-start2 .result)
 clause-at c =
     let s = start c in
-    clause-read (book c) (s .args .c) (c .before .clause-start .result) (c .clause-start2 .result) (s .pre .0) (s .pre .2) (c .before .clause-start .ensures) (c .clause-start2 .ensures)
+    clause-read (book c) (s .args .c) (c .before .clause-start .result) (c .clause-start2 .result) (s .pre .0 .well) (s .pre .1) (c .before .clause-start .ensures) (c .clause-start2 .ensures)
 
 -- where the clause's numbers lie
 fits-at : (c : tie.After-clause-start2) → Fits (variables c) (clauses c) (session c)
-fits-at c =
-    let s = start c in
-    let limited = well-formed-limited (book c) (s .pre .0) in
-    let many = length-clauses (book c) 0 (clausesOf (book c)) in
-    record {
-      few-variables = omega (arith, limited .variables, variables-are c);
-      few-clauses = omega (arith, limited .clauses, clauses-are c);
-      long = omega (arith, s .pre .1, variables-are c, clauses-are c);
-    }
+fits-at c = session-fits _ _ (variables-are c) (clauses-are c) (start c .pre .0)
 
 inside : (c : tie.After-clause-start2) → start c .args .c < clauses c
-inside c = omega (arith, clauses-are c, start c .pre .2)
+inside c = omega (arith, clauses-are c, start c .pre .1)
 
 abbrev at-else1 : tie.Else1 → tie.After-clause-start2
 at-else1 c = c .before
@@ -117,7 +107,7 @@ sub-if1 c = clause-at c .rises
 returns : tie.Need-returns
 returns c =
     let here = c .before in
-    first-none (book here) (start here .args .c) (start here .pre .0) (start here .pre .2) (omega (arith, clause-at (c .before) .size-is, c .if1 .taken))
+    first-none (book here) (start here .args .c) (start here .pre .0 .well) (start here .pre .1) (omega (arith, clause-at (c .before) .size-is, c .if1 .taken))
 
 mul-node : tie.Need-mul-node
 mul-node c =
@@ -190,7 +180,7 @@ returns-2 c =
     let s = start here in
     let read = clause-at here in
     let big = two (c .before .before .before .before .before .before .before .before .before .before .before .before .before .before) in
-    first-some (s .args .book .now) (s .args .c) (s .pre .0) (s .pre .2) (variables here) (clauses here) _ _ (s .args .session .now)
+    first-some (s .args .book .now) (s .args .c) (s .pre .0 .well) (s .pre .1) (variables here) (clauses here) _ _ (s .args .session .now)
     (variables-are here) (clauses-are here) (read .first (omega arith)) (read .literal 1 big) big
     (c .before .before .before .before .before .before .before .before .before .before .before .before .set-watch .ensures) (c .before .before .before .before .before .before .before .push-front .ensures) (c .before .before .push-front2 .ensures)
 

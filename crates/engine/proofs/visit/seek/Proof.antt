@@ -15,7 +15,7 @@ use Rattle.engine.specs.Inner.Scan.{scannedIn}
 use Rattle.engine.specs.Inner.Visit.{Seeking}
 use Rattle.engine.specs.declared.lists.Walk.{Walk}
 use Rattle.engine.specs.declared.scan.Scan.the-variants.{Found, Nothing}
-use Rattle.engine.proofs.visit.StoreLaws.{fits-kept, fits-trail}
+use Rattle.layout.proofs.FitsLaws.{fits-kept, fits-trail}
 use Rattle.engine.proofs.visit.SpotLaws.{half, Spot, spot, spot-fits, spot-standing}
 use Rattle.engine.proofs.visit.SeekLaws.{seeking-scannable, seeking-scanned, found-literal, found-bounds, visited-moved, visited-conflict, implied-asks, visited-implied}
 use borrow.Author.Needs.{needs}

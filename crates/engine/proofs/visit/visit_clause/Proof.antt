@@ -11,7 +11,7 @@ use Rattle.layout.specs.Layout.{Fits, watchesAt}
 use Rattle.engine.specs.Inner.Lists.{Standing}
 use Rattle.engine.specs.Inner.Visit.{Visiting, otherNode}
 use Rattle.engine.specs.declared.lists.Walk.{Walk}
-use Rattle.engine.proofs.visit.StoreLaws.{fits-trail}
+use Rattle.layout.proofs.FitsLaws.{fits-trail}
 use Rattle.engine.proofs.visit.SpotLaws.{half, Spot, spot, spot-fits, spot-standing, other-watch, other-bounded, visited-stays, visited-seeks, visited-sought}
 use borrow.Author.Needs.{needs}
 use Rattle.engine.proofs.visit.visit_clause.Statement.{statement}

@@ -37,31 +37,31 @@ clauses-requires : tie.Need-clauses-requires Inv-loop μ-loop
 clauses-requires c κs = tt
 
 watches-at-requires : tie.Need-watches-at-requires Inv-loop μ-loop
-watches-at-requires c κs = omega (arith, well-formed-limited _ (c .before .before .before .before .pre .0))
+watches-at-requires c κs = omega (arith, well-formed-limited _ (c .before .before .before .before .pre .well))
 
 pointers-at-requires : tie.Need-pointers-at-requires Inv-loop μ-loop
-pointers-at-requires c κs = omega (arith, well-formed-limited _ (c .before .before .before .before .before .pre .0))
+pointers-at-requires c κs = omega (arith, well-formed-limited _ (c .before .before .before .before .before .pre .well))
 
 loop-holds : tie.Need-loop-holds Inv-loop μ-loop
 loop-holds c =
     let start = c .before .before .before .before .before .before in
-    cells-none _ (start .pre .0) _ (start .pre .1) _ _ _ _ (c .before .before .clauses .ensures) (c .before .before .before .variables .ensures)
+    cells-none _ (start .pre .well) _ (start .pre) _ _ _ _ (c .before .before .clauses .ensures) (c .before .before .before .variables .ensures)
     (c .before .watches-at .ensures) (c .pointers-at .ensures)
 
 add-clause-start : tie.Need-add-clause-start Inv-loop μ-loop
 add-clause-start c = omega arith
 
 clause-start-requires : tie.Need-clause-start-requires Inv-loop μ-loop
-clause-start-requires c κs = (start-of (c .before) .pre .0, omega arith)
+clause-start-requires c κs = (start-of (c .before) .pre .well, omega arith)
 
 clause-start-requires-2 : tie.Need-clause-start-requires-2 Inv-loop μ-loop
-clause-start-requires-2 c κs = (start-of (c .before .before) .pre .0, omega arith)
+clause-start-requires-2 c κs = (start-of (c .before .before) .pre .well, omega arith)
 
 sub-n : tie.Need-sub-n Inv-loop μ-loop
 sub-n c =
     omega (
       arith,
-      clause-inside _ (well-formed-parted _ (start-of (turn-of c) .pre .0)) (turn-of c .loop .c) (c .clause-start2 .result)
+      clause-inside _ (well-formed-parted _ (start-of (turn-of c) .pre .well)) (turn-of c .loop .c) (c .clause-start2 .result)
           (c .before .clause-start .result) (omega arith) (c .clause-start2 .ensures) (c .before .clause-start .ensures),
     )
 
@@ -116,7 +116,7 @@ said c =
     let turn = turn-of clause in
     let start = start-of turn in
     sym
-    (cell-read _ (start .pre .0) _ (start .pre .1) _ _ _ _ (turn .loop .inv) (omega arith) _ (clause .clause-start2 .result)
+    (cell-read _ (start .pre .well) _ _ _ _ _ (turn .loop .inv) (omega arith) _ (clause .clause-start2 .result)
     (clause .before .clause-start .result) (clause .clause-start2 .ensures) (clause .before .clause-start .ensures) refl)
     ∙ sym (c .cell-passes .ensures)
 
@@ -124,7 +124,7 @@ returns : tie.Need-returns Inv-loop μ-loop
 returns c =
     let turn = turn-of (clause-of (c .before)) in
     let start = start-of turn in
-    cells-not _ (start .pre .0) _ (start .pre .1) (turn .loop .c) (said (c .before) ∙ not-true _ (c .if1 .taken))
+    cells-not _ (start .pre .well) _ (turn .loop .c) (said (c .before) ∙ not-true _ (c .if1 .taken))
 
 add-c : tie.Need-add-c Inv-loop μ-loop
 add-c c = omega arith
@@ -136,12 +136,12 @@ loop-again : tie.Need-loop-again Inv-loop μ-loop
 loop-again c =
     let turn = turn-of (clause-of (c .before)) in
     let start = start-of turn in
-    cells-more _ (start .pre .0) _ (start .pre .1) _ _ _ _ (turn .loop .inv) (omega arith) (said (c .before) ∙ not-false _ (c .if1 .left))
+    cells-more _ (start .pre .well) _ _ _ _ _ (turn .loop .inv) (omega arith) (said (c .before) ∙ not-false _ (c .if1 .left))
 
 returns-2 : tie.Need-returns-2 Inv-loop μ-loop
 returns-2 c =
     let start = start-of (c .before) in
-    cells-all _ (start .pre .0) _ (start .pre .1) _ _ _ _ (c .before .loop .inv) (omega arith)
+    cells-all _ (start .pre .well) _ _ _ _ _ (c .before .loop .inv) (omega arith)
 
 pub cells-pass-spec : {M : Type 1} → statement M
 cells-pass-spec =

@@ -11,13 +11,13 @@ variables-requires : tie.Need-variables-requires
 variables-requires c κs = tt
 
 clause-start-requires : tie.Need-clause-start-requires
-clause-start-requires c κs = (c .before .before .before .pre .0 .well, omega arith)
+clause-start-requires c κs = (c .before .before .before .pre .0 .fits .well, omega arith)
 
 add-clause-start : tie.Need-add-clause-start
 add-clause-start c = omega arith
 
 clause-start-requires-2 : tie.Need-clause-start-requires-2
-clause-start-requires-2 c κs = (c .before .before .before .before .pre .0 .well, omega arith)
+clause-start-requires-2 c κs = (c .before .before .before .before .pre .0 .fits .well, omega arith)
 
 -- the clause lies within the book
 inside : (c : tie.After-clause-start2)
