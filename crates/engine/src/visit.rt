@@ -20,8 +20,10 @@ use layout::limits::MAX_COUNT;
 use layout::offsets::CONFLICT;
 use layout::offsets::DECISIONS;
 use layout::offsets::checks_at;
+use layout::offsets::clause_of_node;
 use layout::offsets::pointers_at;
 use layout::offsets::values_at;
+use layout::offsets::watch_slot;
 use layout::offsets::watches_at;
 use layout::values::Value;
 use layout::values::clause_start;
@@ -74,9 +76,8 @@ pub(crate) fn set_watch(
     requires { ⌜ Fits variables clauses (now session) × (1 ≤ node) × (node ≤ 2 * clauses) ⌝ }
     ensures { λ r. ⌜ now (session .exit) ≡ watchNums variables clauses (now (session .entry)) node position ⌝ }
 {
-    let watch = wide(node) - 1;
-    session[watches_at(variables) + watch] = position;
-    session[pointers_at(variables, clauses) + watch / 2] = position;
+    session[watch_slot(variables, node)] = position;
+    session[pointers_at(variables, clauses) + clause_of_node(node)] = position;
 }
 
 // The scan of clause c.
@@ -110,7 +111,7 @@ fn seek(book: &[u32], session: &mut [u32], walk: Walk, other: u32, dead: bool) -
     let variables = book::variables(book);
     let clauses = book::clauses(book);
     let node = walk.node;
-    let c = (wide(node) - 1) / 2;
+    let c = clause_of_node(node);
     let count = checks_at(variables, clauses) + c;
     match scan_at(book, session, c) {
         Scan::Found(position, made) => {
@@ -143,8 +144,8 @@ pub(crate) fn visit_clause(book: &[u32], session: &mut [u32], walk: Walk) -> Vis
     let variables = book::variables(book);
     let clauses = book::clauses(book);
     let node = walk.node;
-    let start = clause_start(book, (wide(node) - 1) / 2);
-    let watch = wide(session[watches_at(variables) + (wide(other_node(node)) - 1)]);
+    let start = clause_start(book, clause_of_node(node));
+    let watch = wide(session[watch_slot(variables, other_node(node))]);
     let other = book[start + watch];
     match literal_value(session, variables, other) {
         Value::True => Visit::GoOn(keep(session, variables, clauses, walk)),

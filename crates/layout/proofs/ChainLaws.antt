@@ -18,7 +18,7 @@ use Rattle.run.specs.Valid.{one}
 use Rattle.run.proofs.Clauses.{literal-within, clause-exists}
 use Rattle.run.specs.Progress.{firstLiteral, secondLiteral, among, Watched}
 use Rattle.run.proofs.WatchLists.{literals-differ, listed-size, Order, forth, back, Sides, listed-sides, listed-once}
-use Rattle.layout.specs.Layout.{watchLiteral, nodeOf, firstNode, behind, linkNumber, linkSlot}
+use Rattle.layout.specs.Layout.{watchLiteral, nodeOf, firstNode, behind, linkNumber, linkSlot, clauseOfNode}
 use Rattle.layout.specs.Encodes.{Chain, nodesOf}
 
 -- the node of a clause in a list: of its first watch or of its second
@@ -38,7 +38,7 @@ node-cases formula cells l c =
 pub node-positive : (formula : Formula) (cells : List Cell) (l c : ℕ) → 1 ≤ nodeOf formula cells l c
 node-positive formula cells l c = ⊎-elim (λ p. omega arith) (λ p. omega arith) (node-cases formula cells l c)
 
-pub node-clause : (formula : Formula) (cells : List Cell) (l c : ℕ) → (nodeOf formula cells l c - 1) / 2 ≡ c
+pub node-clause : (formula : Formula) (cells : List Cell) (l c : ℕ) → clauseOfNode (nodeOf formula cells l c) ≡ c
 node-clause formula cells l c = ⊎-elim (λ p. omega arith) (λ p. omega arith) (node-cases formula cells l c)
 
 pub node-within : (formula : Formula) (cells : List Cell) (l c n : ℕ) → c < n → nodeOf formula cells l c ≤ 2 * n
@@ -46,20 +46,20 @@ node-within formula cells l c n h = ⊎-elim (λ p. omega arith) (λ p. omega ar
 
 -- the literal of an odd node is its clause's first watch, of an even one the second
 odd-literal : (formula : Formula) (cells : List Cell) (node : ℕ) → node % 2 ≡ 1
-    → watchLiteral formula cells node ≡ firstLiteral formula cells ((node - 1) / 2)
+    → watchLiteral formula cells node ≡ firstLiteral formula cells (clauseOfNode node)
 unfolding watchLiteral
 odd-literal formula cells node e = rw (eq-eqb (node % 2) 1 e)
 
 even-literal : (formula : Formula) (cells : List Cell) (node : ℕ) → node % 2 ≡ 0
-    → watchLiteral formula cells node ≡ secondLiteral formula cells ((node - 1) / 2)
+    → watchLiteral formula cells node ≡ secondLiteral formula cells (clauseOfNode node)
 unfolding watchLiteral
 even-literal formula cells node e = rw (ne-eqb (node % 2) 1 (λ z. omega arith))
 
 -- what a node of a clause with two watches says: the list of its literal has the clause, whose node there is this one
 pub record AtNode (formula : Formula) (cells : List Cell) (lists : List (List ℕ)) (node : ℕ) : Type 0 where
   pub within : literalWithin (formula .variables) (watchLiteral formula cells node) ≡ true
-  pub stands-there : 0 < times ((node - 1) / 2) (listOf lists (watchLiteral formula cells node))
-  pub is-node : nodeOf formula cells (watchLiteral formula cells node) ((node - 1) / 2) ≡ node
+  pub stands-there : 0 < times (clauseOfNode node) (listOf lists (watchLiteral formula cells node))
+  pub is-node : nodeOf formula cells (watchLiteral formula cells node) (clauseOfNode node) ≡ node
 
 one-same : (a b : ℕ) → a ≡ b → one (eqb a b) ≡ 1
 one-same a b e = rw (eq-eqb a b e)
@@ -76,11 +76,11 @@ module _ (formula : Formula) (s : sound formula ≡ true) (cells : List Cell) (l
       let k = w .watching c two in
       literals-differ formula s c (cellAt cells c .first) (cellAt cells c .second) (k .first-within) (k .second-within) (k .different)
 
-  pub at-node : (node : ℕ) → 1 ≤ node → 2 ≤ size formula ((node - 1) / 2) → AtNode formula cells lists node
+  pub at-node : (node : ℕ) → 1 ≤ node → 2 ≤ size formula (clauseOfNode node) → AtNode formula cells lists node
   at-node node low two = ⊎-elim odd even (alike (node % 2) 1)
     where
       c : ℕ
-      c = (node - 1) / 2
+      c = clauseOfNode node
 
       odd : node % 2 ≡ 1 → AtNode formula cells lists node
       odd e =

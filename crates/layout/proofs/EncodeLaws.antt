@@ -20,7 +20,7 @@ use Rattle.book.proofs.SoundLaws.{literal-parts}
 use Rattle.run.specs.Progress.{Watched}
 use Rattle.run.proofs.WatchLists.{listed-size, listed-once}
 use Rattle.run.proofs.Propagation.{valid-structure}
-use Rattle.layout.specs.Layout.{trailAt, levelsAt, valuesAt, headsAt, watchesAt, pointersAt, linksAt, checksAt, requiredLength, valueNumber, levelNumber, watchLiteral, nodeOf, headNumber, linkNumber, watchNumber, encode, headSlot, linkSlot}
+use Rattle.layout.specs.Layout.{trailAt, levelsAt, valuesAt, headsAt, watchesAt, pointersAt, linksAt, checksAt, requiredLength, valueNumber, levelNumber, watchLiteral, nodeOf, headNumber, linkNumber, watchNumber, encode, headSlot, linkSlot, clauseOfNode}
 use Rattle.layout.specs.Encodes.{Chain, nodesOf, Encodes}
 use Rattle.base.proofs.Tables.{length-table, length-table-append, part-table, table-part, table-joined, table-split}
 use Rattle.layout.proofs.ChainLaws.{node-positive, node-within, AtNode, at-node, node-link, chain-head, chain-link, chain-built}
@@ -148,10 +148,10 @@ watch-odd : (cells : List Cell) (i : ℕ) → (i % 2 ≡ 0 → ⊥) → watchNum
 unfolding watchNumber
 watch-odd cells i n = rw (ne-eqb (i % 2) 0 n)
 
-link-none : (formula : Formula) (cells : List Cell) (lists : List (List ℕ)) (node : ℕ) → size formula ((node - 1) / 2) < 2
+link-none : (formula : Formula) (cells : List Cell) (lists : List (List ℕ)) (node : ℕ) → size formula (clauseOfNode node) < 2
     → linkNumber formula cells lists node ≡ 0
 unfolding linkNumber
-link-none formula cells lists node h = rw (lt-leb 2 (size formula ((node - 1) / 2)) h)
+link-none formula cells lists node h = rw (lt-leb 2 (size formula (clauseOfNode node)) h)
 
 -- The relation of the private contracts says the same of every part, for a run with a sound watch structure.
 module _ (formula : Formula) (s : sound formula ≡ true) (run : Run) (w : Watched formula (run .cells) (run .lists)) (numbers : List ℕ) where
@@ -203,7 +203,7 @@ module _ (formula : Formula) (s : sound formula ≡ true) (run : Run) (w : Watch
           → at (linksAt (formula .variables) (length (formula .clauses)) + i) ≡ linkNumber formula (run .cells) (run .lists) (suc i)
       idle i h few =
           let back : suc i - 1 ≡ i = omega arith in
-          let small : size formula ((suc i - 1) / 2) < 2 = rw back few in
+          let small : size formula (clauseOfNode (suc i)) < 2 = rw back few in
           let same : linksAt (formula .variables) (length (formula .clauses)) + i ≡ linkSlot (formula .variables) (length (formula .clauses)) (suc i)
           = omega arith in
           ap at same ∙ e .watches .in-lists .idle (suc i) (omega arith) (omega arith) small
@@ -224,8 +224,8 @@ module _ (formula : Formula) (s : sound formula ≡ true) (run : Run) (w : Watch
           (headSlot (formula .variables) (length (formula .clauses)) (watchLiteral formula (run .cells) (suc i)))
           (listOf (run .lists) (watchLiteral formula (run .cells) (suc i)))
           (e .watches .in-lists .chains (watchLiteral formula (run .cells) (suc i)) (bounds .0) (bounds .1))
-          ((suc i - 1) / 2) (node .stands-there)
-          ∙ sym (node-link formula s (run .cells) (run .lists) w (watchLiteral formula (run .cells) (suc i)) ((suc i - 1) / 2) (node .stands-there))
+          (clauseOfNode (suc i)) (node .stands-there)
+          ∙ sym (node-link formula s (run .cells) (run .lists) w (watchLiteral formula (run .cells) (suc i)) (clauseOfNode (suc i)) (node .stands-there))
           ∙ ap (linkNumber formula (run .cells) (run .lists)) (node .is-node)
 
   parts-encodes : requiredLength (formula .variables) (length (formula .clauses)) ≤ length numbers → Parts formula numbers run → Encodes formula numbers run
@@ -267,7 +267,7 @@ module _ (formula : Formula) (s : sound formula ≡ true) (run : Run) (w : Watch
           let back : suc (node - 1) ≡ node = omega arith in
           p .links (node - 1) (omega arith) ∙ ap (linkNumber formula (run .cells) (run .lists)) back
 
-      idle : (node : ℕ) → 1 ≤ node → node ≤ 2 * length (formula .clauses) → size formula ((node - 1) / 2) < 2
+      idle : (node : ℕ) → 1 ≤ node → node ≤ 2 * length (formula .clauses) → size formula (clauseOfNode node) < 2
           → at (linkSlot (formula .variables) (length (formula .clauses)) node) ≡ 0
       idle node low high few = link-at node low high ∙ link-none formula (run .cells) (run .lists) node few
 

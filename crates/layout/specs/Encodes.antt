@@ -7,7 +7,7 @@ use Rattle.book.specs.Formula.{Formula}
 use Rattle.run.specs.Trail.{Entry, literalAt, decisions}
 use Rattle.run.specs.Scan.{Cell}
 use Rattle.run.specs.Run.{Run, size, listOf, cellAt}
-use Rattle.layout.specs.Layout.{headSlot, linkSlot, lengthAt, decisionsAt, conflictAt, backtracksAt, trailAt, levelsAt, valuesAt, watchesAt, pointersAt, checksAt, requiredLength, valueNumber, levelNumber, nodeOf}
+use Rattle.layout.specs.Layout.{headSlot, linkSlot, lengthAt, decisionsAt, conflictAt, backtracksAt, trailAt, levelsAt, valuesAt, watchesAt, pointersAt, checksAt, requiredLength, valueNumber, levelNumber, nodeOf, clauseOfNode}
 
 -- the nodes from a slot on; 0 ends them
 abbrev pub Chain : ℕ → ℕ → List ℕ → ℕ → List ℕ → Type 0
@@ -28,7 +28,7 @@ pub record TrailHeld (v : ℕ) (numbers : List ℕ) (trail : List Entry) : Type 
 pub record ListsHeld (formula : Formula) (numbers : List ℕ) (cells : List Cell) (lists : List (List ℕ)) : Type 0 where
   pub chains : (l : ℕ) → 2 ≤ l → l ≤ 2 * formula .variables + 1
       → Chain (formula .variables) (length (formula .clauses)) numbers (headSlot (formula .variables) (length (formula .clauses)) l) (nodesOf formula cells l (listOf lists l))
-  pub idle : (node : ℕ) → 1 ≤ node → node ≤ 2 * length (formula .clauses) → size formula ((node - 1) / 2) < 2
+  pub idle : (node : ℕ) → 1 ≤ node → node ≤ 2 * length (formula .clauses) → size formula (clauseOfNode node) < 2
       → getD numbers (linkSlot (formula .variables) (length (formula .clauses)) node) 0 ≡ 0
 
 pub record WatchesHeld (formula : Formula) (numbers : List ℕ) (cells : List Cell) (lists : List (List ℕ)) : Type 0 where

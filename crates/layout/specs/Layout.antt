@@ -51,9 +51,12 @@ headsAt v c = trailAt + 3 * v + 4 * c
 abbrev pub linksAt : ℕ → ℕ → ℕ
 linksAt v c = trailAt + 5 * v + 4 * c
 
--- the place of the value of a literal's variable, of a list's head, and of a node's link
+-- the place of the value of a literal's variable, of a node's watch, of a list's head, and of a node's link
 abbrev pub valueSlot : ℕ → ℕ → ℕ
 valueSlot v l = valuesAt v + (variableOf l - 1)
+
+abbrev pub watchSlot : ℕ → ℕ → ℕ
+watchSlot v node = watchesAt v + (node - 1)
 
 abbrev pub headSlot : ℕ → ℕ → ℕ → ℕ
 headSlot v c l = headsAt v c + (l - 2)
@@ -93,11 +96,14 @@ levelNumber trail h = level trail (literalAt trail h)
 
 -- A clause of n ≥ 2 has two nodes, one for each watch: node 2 × c + 1 for the first, 2 × c + 2 for the second. A literal's watch list is a
 -- chain of nodes from its head on, and 0 ends it.
+abbrev pub clauseOfNode : ℕ → ℕ
+clauseOfNode node = (node - 1) / 2
+
 unfoldable pub watchLiteral : Formula → List Cell → ℕ → ℕ
 watchLiteral formula cells node =
     cond (eqb (node % 2) 1)
-    (getD (clauseOf formula ((node - 1) / 2)) (cellAt cells ((node - 1) / 2) .first) 0)
-    (getD (clauseOf formula ((node - 1) / 2)) (cellAt cells ((node - 1) / 2) .second) 0)
+    (getD (clauseOf formula (clauseOfNode node)) (cellAt cells (clauseOfNode node) .first) 0)
+    (getD (clauseOf formula (clauseOfNode node)) (cellAt cells (clauseOfNode node) .second) 0)
 
 unfoldable pub nodeOf : Formula → List Cell → ℕ → ℕ → ℕ
 nodeOf formula cells l c = cond (eqb (getD (clauseOf formula c) (cellAt cells c .first) 0) l) (2 * c + 1) (2 * c + 2)
@@ -116,9 +122,9 @@ headNumber formula cells lists l = firstNode formula cells l (listOf lists l)
 
 unfoldable pub linkNumber : Formula → List Cell → List (List ℕ) → ℕ → ℕ
 linkNumber formula cells lists node =
-    cond (leb 2 (size formula ((node - 1) / 2)))
+    cond (leb 2 (size formula (clauseOfNode node)))
     (firstNode formula cells (watchLiteral formula cells node)
-    (behind ((node - 1) / 2) (listOf lists (watchLiteral formula cells node))))
+    (behind (clauseOfNode node) (listOf lists (watchLiteral formula cells node))))
     0
 
 unfoldable pub watchNumber : List Cell → ℕ → ℕ
@@ -163,7 +169,7 @@ heldCells v c numbers from (suc n) =
 unfoldable pub chainFrom : ℕ → ℕ → List ℕ → ℕ → ℕ → List ℕ
 chainFrom v c numbers zero node = []
 chainFrom v c numbers (suc fuel) node =
-    let rest = (node - 1) / 2 ∷ chainFrom v c numbers fuel (getD numbers (linkSlot v c node) 0) in
+    let rest = clauseOfNode node ∷ chainFrom v c numbers fuel (getD numbers (linkSlot v c node) 0) in
     cond (eqb node 0) [] rest
 
 unfoldable pub heldLists : ℕ → ℕ → List ℕ → ℕ → ℕ → List (List ℕ)

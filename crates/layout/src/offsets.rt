@@ -2,7 +2,7 @@
 ghost use mathlib.Core.Path.{_≡_};
 ghost use Prim.Native.Nat.{_≤_};
 ghost use Rattle.book.specs.Formula.{maxVariables, maxClauses};
-ghost use Rattle.layout.specs.Layout.{levelsAt, valuesAt, watchesAt, pointersAt, checksAt, headsAt, linksAt, requiredLength, valueSlot, headSlot, linkSlot};
+ghost use Rattle.layout.specs.Layout.{levelsAt, valuesAt, watchesAt, pointersAt, checksAt, headsAt, linksAt, requiredLength, valueSlot, watchSlot, headSlot, linkSlot, clauseOfNode};
 use crate::values::wide;
 use book::limits::MAX_CLAUSES;
 use book::limits::MAX_VARIABLES;
@@ -74,6 +74,22 @@ pub fn value_slot(variables: usize, literal: u32) -> usize
     ensures { λ r. ⌜ r ≡ valueSlot variables literal ⌝ }
 {
     values_at(variables) + (wide(literal / 2) - 1)
+}
+
+// The place of a node's watch.
+pub fn watch_slot(variables: usize, node: u32) -> usize
+    requires { ⌜ (variables ≤ maxVariables) × (1 ≤ node) ⌝ }
+    ensures { λ r. ⌜ r ≡ watchSlot variables node ⌝ }
+{
+    watches_at(variables) + (wide(node) - 1)
+}
+
+// The clause that a node is of.
+pub fn clause_of_node(node: u32) -> usize
+    requires { ⌜ 1 ≤ node ⌝ }
+    ensures { λ r. ⌜ r ≡ clauseOfNode node ⌝ }
+{
+    (wide(node) - 1) / 2
 }
 
 // The place of the head of a literal's list.

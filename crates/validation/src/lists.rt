@@ -6,9 +6,10 @@ ghost use Rattle.book.specs.Numbers.{variablesOf, clausesOf, formulaOf};
 ghost use Rattle.validation.specs.Inner.Says.{Says};
 ghost use Rattle.validation.specs.Inner.Lists.{ListsGood, ownerIn, Looking, Marks, ListSays, AllSays, NodeGood, NodesGood};
 use book::limits::MAX_CLAUSES;
+use layout::offsets::clause_of_node;
 use layout::offsets::head_slot;
 use layout::offsets::link_slot;
-use layout::offsets::watches_at;
+use layout::offsets::watch_slot;
 use layout::values::clause_start;
 use layout::values::wide;
 
@@ -21,13 +22,13 @@ fn owner(book: &[u32], session: &[u32], node: u32) -> u32
     requires { ⌜ (1 ≤ node) × (node ≤ 2 * clausesOf (now book)) ⌝ }
     ensures { λ r. ⌜ r ≡ ownerIn (now (book .entry)) (now (session .entry)) node ⌝ }
 {
-    let clause = wide((node - 1) / 2);
+    let clause = clause_of_node(node);
     let start = clause_start(book, clause);
     let end = clause_start(book, clause + 1);
     if end - start < 2 {
         return 0;
     }
-    let watch = watches_at(book::variables(book)) + wide(node - 1);
+    let watch = watch_slot(book::variables(book), node);
     let position = wide(session[watch]);
     book[start + position]
 }

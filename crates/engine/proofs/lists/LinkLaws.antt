@@ -11,7 +11,7 @@ use Rattle.base.proofs.Occurrences.{times-more, times-append}
 use Rattle.book.specs.Formula.{Formula}
 use Rattle.run.specs.Scan.{Cell}
 use Rattle.run.specs.Run.{size, listOf}
-use Rattle.layout.specs.Layout.{nodeOf, requiredLength, headSlot, linkSlot}
+use Rattle.layout.specs.Layout.{nodeOf, requiredLength, headSlot, linkSlot, clauseOfNode}
 use Rattle.layout.specs.Encodes.{Chain, nodesOf, endSlot}
 use Rattle.layout.proofs.ChainLaws.{Nodes, Within, node-between}
 use Rattle.engine.specs.Inner.Lists.{listsAt}
@@ -114,14 +114,14 @@ chains-kept formula s t cells after lists within alike same k l low high =
     (k l low high)
 
 -- the clause of a node
-pub clause-of-node : (node d : ℕ) → 2 * d + 1 ≤ node → node ≤ 2 * d + 2 → (node - 1) / 2 ≡ d
+pub clause-of-node : (node d : ℕ) → 2 * d + 1 ≤ node → node ≤ 2 * d + 2 → clauseOfNode node ≡ d
 clause-of-node node d a b = omega arith
 
 -- a node of a clause with watches is not idle
-pub idle-apart : (formula : Formula) (m node d : ℕ) → size formula ((m - 1) / 2) < 2 → 1 ≤ m → 2 * d + 1 ≤ node → node ≤ 2 * d + 2 → 2 ≤ size formula d
+pub idle-apart : (formula : Formula) (m node d : ℕ) → size formula (clauseOfNode m) < 2 → 1 ≤ m → 2 * d + 1 ≤ node → node ≤ 2 * d + 2 → 2 ≤ size formula d
     → linkSlot (formula .variables) (length (formula .clauses)) m ≡ linkSlot (formula .variables) (length (formula .clauses)) node → ⊥
 idle-apart formula m node d h one a b two e =
     let same : m ≡ node = omega arith in
-    let half : (m - 1) / 2 ≡ d = rw same (clause-of-node node d a b) in
-    let few : size formula d < 2 = rw (← half) h in
+    let its : clauseOfNode m ≡ d = rw same (clause-of-node node d a b) in
+    let few : size formula d < 2 = rw (← its) h in
     omega arith

@@ -14,7 +14,7 @@ use Rattle.book.specs.Formula.{Formula}
 use Rattle.run.specs.Scan.{Cell}
 use Rattle.run.specs.Run.{size, listOf, without, takeOut}
 use Rattle.run.proofs.Order.{taken-out, taken-elsewhere, taken-length}
-use Rattle.layout.specs.Layout.{nodeOf, headSlot, linkSlot}
+use Rattle.layout.specs.Layout.{nodeOf, headSlot, linkSlot, clauseOfNode}
 use Rattle.layout.specs.Encodes.{Chain, nodesOf}
 use Rattle.layout.proofs.ChainLaws.{node-between}
 use Rattle.engine.specs.Inner.Lists.{Orderly, Lists, Walking, Standing, TakenOut}
@@ -96,7 +96,7 @@ module _ {v n : ℕ} {before : List ℕ} {formula : Formula} {cells : List Cell}
           other (at .orderly .apart l d q (k .0) h (k .1)
           (let a = node-between formula cells l d in let b = node-between formula cells q (k .0) in let e = k .2 in omega arith))
 
-  slot-idle : (m : ℕ) → 1 ≤ m → size formula ((m - 1) / 2) < 2 → linkSlot vars many m ≡ walk .slot → ⊥
+  slot-idle : (m : ℕ) → 1 ≤ m → size formula (clauseOfNode m) < 2 → linkSlot vars many m ≡ walk .slot → ⊥
   slot-idle m low few z = go (slot-case w)
     where
       go : SlotCase formula cells lists q (walk .slot) → ⊥

@@ -21,7 +21,7 @@ use Rattle.run.proofs.Order.{pushed-elsewhere}
 use Rattle.run.proofs.ScanLaws.{pointer-within, scan-found}
 use Rattle.run.proofs.WatchLists.{moved-apart, moved-watched}
 use Rattle.run.specs.Progress.{Watched}
-use Rattle.layout.specs.Layout.{decisionsAt, conflictAt, lengthAt, checksAt, requiredLength}
+use Rattle.layout.specs.Layout.{decisionsAt, conflictAt, lengthAt, checksAt, requiredLength, clauseOfNode}
 use Rattle.layout.specs.Encodes.{Encodes}
 use Rattle.engine.specs.Engine.{SameBehind}
 use Rattle.engine.specs.Inner.Lists.{Lists, Walking, Unlisted, KeptOn, TakenOut, PushedFront}
@@ -64,7 +64,7 @@ module _ {book numbers : List ℕ} {walk : Walk} {other : ℕ} {dead : Bool} (se
   inside : c < clausesOf book
   inside = omega (arith, clause-inside-formula at, clauses-counted book)
 
-  pub seeking-scannable : (d : ℕ) → d ≡ (walk .node - 1) / 2 → Scannable book numbers d
+  pub seeking-scannable : (d : ℕ) → d ≡ clauseOfNode (walk .node) → Scannable book numbers d
   seeking-scannable d e =
       record {
         well = at .well;
@@ -75,7 +75,7 @@ module _ {book numbers : List ℕ} {walk : Walk} {other : ℕ} {dead : Bool} (se
         watching = rw (e ∙ clause-is at) (visited-seen at .watching);
       }
 
-  pub seeking-scanned : (r t : Scan) (d : ℕ) → r ≡ t → d ≡ (walk .node - 1) / 2
+  pub seeking-scanned : (r t : Scan) (d : ℕ) → r ≡ t → d ≡ clauseOfNode (walk .node)
       → ((s : Scannable book numbers d) → scannedIn r ≡ scan (s .run .trail) (clauseOf (formulaOf book) d) (cellOf (s .run) d))
       → scannedIn t ≡ scan trail clause cell
   unfolding seeking-scannable
@@ -95,7 +95,7 @@ module _ {book numbers : List ℕ} {walk : Walk} {other : ℕ} {dead : Bool} (se
         scan-found trail clause cell position (pointer-within (size formula c) cell (visited-seen at .watching))
         (ap (λ (x : Scanned). x .found) (sym found))
 
-    pub found-literal : (start : ℕ) → start ≡ clauseStart book ((walk .node - 1) / 2)
+    pub found-literal : (start : ℕ) → start ≡ clauseStart book (clauseOfNode (walk .node))
         → (position < maxClause) × (start + position < length book) × (getD book (start + position) 0 ≡ getD clause position 0)
     found-literal start begin =
         let reads = spot-literal book (at .well) c position start inside (found-at .0) (begin ∙ ap (clauseStart book) (clause-is at)) in
@@ -197,7 +197,7 @@ module _ {book numbers : List ℕ} {walk : Walk} {other : ℕ} {dead : Bool} (se
           value = min (getD pushed place 0 + made) maxCount
 
     pub visited-moved : (vars many count literal : ℕ) {taken stored pushed after : List ℕ} (next : Walk) → vars ≡ variablesOf book → many ≡ clausesOf book
-        → count ≡ checksAt vars many + (walk .node - 1) / 2 → literal ≡ getD clause position 0
+        → count ≡ checksAt vars many + clauseOfNode (walk .node) → literal ≡ getD clause position 0
         → TakenOut vars many numbers taken walk next → stored ≡ watchNums vars many taken (walk .node) position
         → PushedFront vars many stored pushed literal (walk .node) → after ≡ countNums pushed count made → Visited book numbers after at (v.GoOn next)
     visited-moved vars many count literal {taken} {stored} {pushed} {after} next vars-is many-is count-is literal-is took stored-is push after-is =
@@ -226,7 +226,7 @@ module _ {book numbers : List ℕ} {walk : Walk} {other : ℕ} {dead : Bool} (se
     abbrev countedRun : Run
     countedRun = counted c made (at .run)
 
-    count-place : (vars many count : ℕ) → vars ≡ variablesOf book → many ≡ clausesOf book → count ≡ checksAt vars many + (walk .node - 1) / 2
+    count-place : (vars many count : ℕ) → vars ≡ variablesOf book → many ≡ clausesOf book → count ≡ checksAt vars many + clauseOfNode (walk .node)
         → count ≡ place-count
     count-place vars many count vars-is many-is count-is = omega (arith, clause-is at, clauses-counted book)
 
@@ -243,8 +243,8 @@ module _ {book numbers : List ℕ} {walk : Walk} {other : ℕ} {dead : Bool} (se
         (let i = clause-inside-formula at in omega (arith, clauses-counted book))
 
     pub visited-conflict : dead ≡ true → (vars many count name : ℕ) (after : List ℕ) → vars ≡ variablesOf book → many ≡ clausesOf book
-        → count ≡ checksAt vars many + (walk .node - 1) / 2
-        → name ≡ (walk .node - 1) / 2 + 1
+        → count ≡ checksAt vars many + clauseOfNode (walk .node)
+        → name ≡ clauseOfNode (walk .node) + 1
         → after ≡ set (countNums numbers count made) conflictAt name
         → Visited book numbers after at v.Conflict
     unfolding performAction counted withConflict
@@ -269,7 +269,7 @@ module _ {book numbers : List ℕ} {walk : Walk} {other : ℕ} {dead : Bool} (se
 
     -- an assignment has what it asks
     pub implied-asks : dead ≡ false → (vars many count : ℕ) → vars ≡ variablesOf book → many ≡ clausesOf book
-        → count ≡ checksAt vars many + (walk .node - 1) / 2
+        → count ≡ checksAt vars many + clauseOfNode (walk .node)
         → (getD (countNums numbers count made) lengthAt 0 < variablesOf book) × (2 ≤ other) × (variableOf other ≤ variablesOf book)
     unfolding counted
     implied-asks e vars many count vars-is many-is count-is =
@@ -281,7 +281,7 @@ module _ {book numbers : List ℕ} {walk : Walk} {other : ℕ} {dead : Bool} (se
         )
 
     pub visited-implied : dead ≡ false → (vars many count level : ℕ) (after : List ℕ) (next : Walk) → vars ≡ variablesOf book → many ≡ clausesOf book
-        → count ≡ checksAt vars many + (walk .node - 1) / 2
+        → count ≡ checksAt vars many + clauseOfNode (walk .node)
         → level ≡ getD (countNums numbers count made) decisionsAt 0
         → after ≡ assignNums vars (countNums numbers count made) other level
         → KeptOn vars many after walk next

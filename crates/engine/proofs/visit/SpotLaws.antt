@@ -20,7 +20,7 @@ use Rattle.run.specs.Run.{Run, clauseOf, size, cellOf, otherWatch, action, perf
 use Rattle.run.proofs.Clauses.{clause-exists, literal-within}
 use Rattle.run.specs.Progress.{Watched, Trailed}
 use Rattle.run.proofs.Visits.{Seen, seen}
-use Rattle.layout.specs.Layout.{Fits, valuesAt, watchesAt, nodeOf, valueSlot}
+use Rattle.layout.specs.Layout.{Fits, valuesAt, watchesAt, nodeOf, valueSlot, clauseOfNode, watchSlot}
 use Rattle.layout.proofs.FitsLaws.{held-fits, session-fits}
 use Rattle.layout.specs.Encodes.{TrailHeld, Encodes}
 use Rattle.layout.specs.Values.{valueRead}
@@ -39,9 +39,6 @@ use Rattle.engine.proofs.lists.WalkLaws.{walking-node, walking-stands}
 use Rattle.engine.proofs.scan.Laws.{ValueSays, reads-says}
 
 -- the clause of a node
-abbrev pub half : ℕ → ℕ
-half node = (node - 1) / 2
-
 -- the literals of a clause, where they stand in the book
 pub spot-literal : (book : List ℕ) → wellFormed book ≡ true → (c p start : ℕ) → c < clausesOf book → p < size (formulaOf book) c
     → start ≡ clauseStart book c
@@ -90,7 +87,7 @@ held-says {v} {numbers} {trail} held once long l low within r e =
 pub record Spot (book numbers : List ℕ) (walk : Walk) : Type 0 where
   pub fits : Fits (variablesOf book) (clausesOf book) numbers
   pub standing : Standing (variablesOf book) (clausesOf book) walk
-  pub inside : (walk .node - 1) / 2 < clausesOf book
+  pub inside : clauseOfNode (walk .node) < clausesOf book
   pub other-low : 1 ≤ otherNode (walk .node)
   pub other-high : otherNode (walk .node) ≤ 2 * clausesOf book
 
@@ -125,7 +122,7 @@ module _ {book numbers : List ℕ} {walk : Walk} (at : Visiting book numbers wal
   pub clause-inside-formula : at .clause < length (formulaOf book .clauses)
   clause-inside-formula = clause-exists formula c (let z = visited-seen .two in omega arith)
 
-  pub clause-is : (walk .node - 1) / 2 ≡ at .clause
+  pub clause-is : clauseOfNode (walk .node) ≡ at .clause
   clause-is = let b = node-between formula (at .run .cells) (at .q) c in let e = walking-node (at .walking) in omega arith
 
   pub spot : Spot book numbers walk
@@ -147,8 +144,8 @@ module _ {book numbers : List ℕ} {walk : Walk} (at : Visiting book numbers wal
   spot-standing vars many vars-is many-is = rw (vars-is, many-is) (spot .standing)
 
   -- the literal of the other watch, as the code reads it
-  pub other-watch : (start watch : ℕ) → start ≡ clauseStart book ((walk .node - 1) / 2)
-      → watch ≡ getD numbers (watchesAt (variablesOf book) + (otherNode (walk .node) - 1)) 0
+  pub other-watch : (start watch : ℕ) → start ≡ clauseStart book (clauseOfNode (walk .node))
+      → watch ≡ getD numbers (watchSlot (variablesOf book) (otherNode (walk .node))) 0
       → (start + watch < length book)
       × (getD book (start + watch) 0 ≡ otherWatch (clauseOf (formulaOf book) (at .clause)) (cellOf (at .run) (at .clause)) (at .q))
   unfolding otherWatch nodeOf
@@ -166,13 +163,13 @@ module _ {book numbers : List ℕ} {walk : Walk} (at : Visiting book numbers wal
           × (getD book (start + watch) 0
           ≡ cond b (getD (clauseOf formula c) (cellOf (at .run) c .second) 0) (getD (clauseOf formula c) (cellOf (at .run) c .first) 0))
       go true e =
-          let place : watchesAt (variablesOf book) + (otherNode (walk .node) - 1) ≡ watchesAt (variablesOf book) + 2 * c + 1 =
+          let place : watchSlot (variablesOf book) (otherNode (walk .node)) ≡ watchesAt (variablesOf book) + 2 * c + 1 =
           omega (arith, other-odd c (walk .node) e) in
           read (cellOf (at .run) c .second)
           (reads ∙ ap (λ (x : ℕ). getD numbers x 0) place ∙ at .encodes .watches .seconds c clause-inside-formula)
           (visited-seen .watching .second-within)
       go false e =
-          let place : watchesAt (variablesOf book) + (otherNode (walk .node) - 1) ≡ watchesAt (variablesOf book) + 2 * c =
+          let place : watchSlot (variablesOf book) (otherNode (walk .node)) ≡ watchesAt (variablesOf book) + 2 * c =
           omega (arith, other-even c (walk .node) e) in
           read (cellOf (at .run) c .first)
           (reads ∙ ap (λ (x : ℕ). getD numbers x 0) place ∙ at .encodes .watches .firsts c clause-inside-formula)

@@ -18,7 +18,7 @@ use Rattle.run.proofs.Trails.{untrue-place}
 use Rattle.run.specs.Progress.{Watched, Trailed}
 use Rattle.run.proofs.Propagation.{trailed-push}
 use Rattle.run.proofs.Validity.{trail-short}
-use Rattle.layout.specs.Layout.{lengthAt, decisionsAt, conflictAt, backtracksAt, trailAt, levelsAt, valuesAt, watchesAt, pointersAt, checksAt, requiredLength, nodeOf}
+use Rattle.layout.specs.Layout.{lengthAt, decisionsAt, conflictAt, backtracksAt, trailAt, levelsAt, valuesAt, watchesAt, pointersAt, checksAt, requiredLength, nodeOf, clauseOfNode, watchSlot}
 use Rattle.layout.specs.Encodes.{TrailHeld, Encodes}
 use Rattle.layout.proofs.ChainLaws.{watched-within}
 use Rattle.engine.specs.Inner.Trail.{SameBeside, assignNums}
@@ -154,20 +154,20 @@ pub data Turned (c node position : ℕ) (cell after : Cell) : Type 0 where
   secondly : node ≡ 2 * c + 2 → after ≡ record { first = cell .first; second = position; pointer = position } → Turned c node position cell after
 
 pub turned-node : {c node position : ℕ} {cell after : Cell} → Turned c node position cell after
-    → (1 ≤ node) × ((node - 1) / 2 ≡ c)
+    → (1 ≤ node) × (clauseOfNode node ≡ c)
 turned-node (firstly a b) = (omega arith, omega arith)
 turned-node (secondly a b) = (omega arith, omega arith)
 
 pub watch-length : (v n : ℕ) (numbers : List ℕ) (node position : ℕ) → length (watchNums v n numbers node position) ≡ length numbers
 watch-length v n numbers node position =
-    length-set (set numbers (watchesAt v + (node - 1)) position) (pointersAt v n + (node - 1) / 2) position
-    ∙ length-set numbers (watchesAt v + (node - 1)) position
+    length-set (set numbers (watchSlot v node) position) (pointersAt v n + clauseOfNode node) position
+    ∙ length-set numbers (watchSlot v node) position
 
 pub watch-behind : (v n : ℕ) (numbers : List ℕ) (node position : ℕ) → 1 ≤ node → node ≤ 2 * n
     → drop (requiredLength v n) (watchNums v n numbers node position) ≡ drop (requiredLength v n) numbers
 watch-behind v n numbers node position low high =
-    drop-set-lt (requiredLength v n) (set numbers (watchesAt v + (node - 1)) position) (pointersAt v n + (node - 1) / 2) position (omega arith)
-    ∙ drop-set-lt (requiredLength v n) numbers (watchesAt v + (node - 1)) position (omega arith)
+    drop-set-lt (requiredLength v n) (set numbers (watchSlot v node) position) (pointersAt v n + clauseOfNode node) position (omega arith)
+    ∙ drop-set-lt (requiredLength v n) numbers (watchSlot v node) position (omega arith)
 
 -- the numbers after it
 pub record WatchSet (v n : ℕ) (formula : Formula) (before numbers : List ℕ) (after : List Cell) (run : Run) : Type 0 where
@@ -187,25 +187,25 @@ module _ {v n c node position : ℕ} {formula : Formula} {numbers : List ℕ} {r
   node-bounds : (1 ≤ node) × (node ≤ 2 * n)
   node-bounds = let t = turned-node turned in (t .0, let a = t .0 in let b = t .1 in omega arith)
 
-  stored-other : (x : ℕ) → (x ≡ watchesAt v + (node - 1) → ⊥) → (x ≡ pointersAt v n + c → ⊥) → getD stores x 0 ≡ getD numbers x 0
+  stored-other : (x : ℕ) → (x ≡ watchSlot v node → ⊥) → (x ≡ pointersAt v n + c → ⊥) → getD stores x 0 ≡ getD numbers x 0
   stored-other x a b =
       let half = turned-node turned .1 in
-      getD-set-other (set numbers (watchesAt v + (node - 1)) position) (pointersAt v n + (node - 1) / 2) x position 0 (λ e. b (omega arith))
-      ∙ getD-set-other numbers (watchesAt v + (node - 1)) x position 0 a
+      getD-set-other (set numbers (watchSlot v node) position) (pointersAt v n + clauseOfNode node) x position 0 (λ e. b (omega arith))
+      ∙ getD-set-other numbers (watchSlot v node) x position 0 a
 
-  stored-watch : getD stores (watchesAt v + (node - 1)) 0 ≡ position
+  stored-watch : getD stores (watchSlot v node) 0 ≡ position
   stored-watch =
       let b = node-bounds in
       let half = turned-node turned .1 in
-      getD-set-other (set numbers (watchesAt v + (node - 1)) position) (pointersAt v n + (node - 1) / 2) (watchesAt v + (node - 1)) position 0 (λ e. omega arith)
-      ∙ getD-set-same numbers (watchesAt v + (node - 1)) position 0 (omega (arith, k .long))
+      getD-set-other (set numbers (watchSlot v node) position) (pointersAt v n + clauseOfNode node) (watchSlot v node) position 0 (λ e. omega arith)
+      ∙ getD-set-same numbers (watchSlot v node) position 0 (omega (arith, k .long))
 
   stored-pointer : getD stores (pointersAt v n + c) 0 ≡ position
   stored-pointer =
-      let half : pointersAt v n + c ≡ pointersAt v n + (node - 1) / 2 = omega (arith, turned-node turned .1) in
+      let half : pointersAt v n + c ≡ pointersAt v n + clauseOfNode node = omega (arith, turned-node turned .1) in
       rw half
-      (getD-set-same (set numbers (watchesAt v + (node - 1)) position) (pointersAt v n + (node - 1) / 2) position 0
-      (rw (length-set numbers (watchesAt v + (node - 1)) position) (omega (arith, k .long, turned-node turned .1))))
+      (getD-set-same (set numbers (watchSlot v node) position) (pointersAt v n + clauseOfNode node) position 0
+      (rw (length-set numbers (watchSlot v node) position) (omega (arith, k .long, turned-node turned .1))))
 
   turned-lists : Lists v n (watchNums v n numbers node position) formula after (run .lists)
   turned-lists =
@@ -221,7 +221,7 @@ module _ {v n c node position : ℕ} {formula : Formula} {numbers : List ℕ} {r
       go : Turned c node position (cellAt (run .cells) c) (cellAt after c) → (d ≡ c) ⊎ (d ≡ c → ⊥)
           → getD stores (watchesAt v + 2 * d) 0 ≡ cellAt after d .first
       go (firstly a b) (inl z) =
-          let here : watchesAt v + 2 * d ≡ watchesAt v + (node - 1) = omega arith in
+          let here : watchesAt v + 2 * d ≡ watchSlot v node = omega arith in
           rw (here, stored-watch, z, b)
       go (secondly a b) (inl z) =
           stored-other (watchesAt v + 2 * d) (λ y. omega arith) (λ y. omega arith) ∙ before
@@ -239,7 +239,7 @@ module _ {v n c node position : ℕ} {formula : Formula} {numbers : List ℕ} {r
       go : Turned c node position (cellAt (run .cells) c) (cellAt after c) → (d ≡ c) ⊎ (d ≡ c → ⊥)
           → getD stores (watchesAt v + 2 * d + 1) 0 ≡ cellAt after d .second
       go (secondly a b) (inl z) =
-          let here : watchesAt v + 2 * d + 1 ≡ watchesAt v + (node - 1) = omega arith in
+          let here : watchesAt v + 2 * d + 1 ≡ watchSlot v node = omega arith in
           rw (here, stored-watch, z, b)
       go (firstly a b) (inl z) =
           stored-other (watchesAt v + 2 * d + 1) (λ y. omega arith) (λ y. omega arith) ∙ before

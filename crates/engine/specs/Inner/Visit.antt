@@ -12,7 +12,7 @@ use Rattle.run.specs.Trail.{Entry, isTrue, isFalse}
 use Rattle.run.specs.Run.{Run, visit, inConflict, clauseOf, size, cellOf, otherWatch, maxCount}
 use Rattle.run.specs.Valid.{Watching}
 use Rattle.run.specs.Progress.{ReadingList}
-use Rattle.layout.specs.Layout.{watchesAt, pointersAt}
+use Rattle.layout.specs.Layout.{watchesAt, pointersAt, clauseOfNode, watchSlot}
 use Rattle.layout.specs.Encodes.{Encodes}
 use Rattle.engine.specs.Engine.{SameBehind}
 use Rattle.engine.specs.Inner.Lists.{Walking}
@@ -56,7 +56,7 @@ countNums numbers slot made = set numbers slot (min (getD numbers slot 0 + made)
 -- the watch of a node at a position, and the pointer with it
 abbrev pub watchNums : ℕ → ℕ → List ℕ → ℕ → ℕ → List ℕ
 watchNums v n numbers node position =
-    set (set numbers (watchesAt v + (node - 1)) position) (pointersAt v n + (node - 1) / 2) position
+    set (set numbers (watchSlot v node) position) (pointersAt v n + clauseOfNode node) position
 
 -- Clause c of a run that numbers hold has two watches.
 pub record Scannable (book numbers : List ℕ) (c : ℕ) : Type 0 where

@@ -23,7 +23,7 @@ use Rattle.run.proofs.Clauses.{clause-exists, literal-within}
 use Rattle.book.proofs.SoundLaws.{literal-parts}
 use Rattle.run.specs.Progress.{firstLiteral, secondLiteral, Watched}
 use Rattle.run.proofs.WatchLists.{listed-size, literals-differ}
-use Rattle.layout.specs.Layout.{headsAt, watchLiteral, nodeOf, chainFrom, held, headSlot, linkSlot}
+use Rattle.layout.specs.Layout.{headsAt, watchLiteral, nodeOf, chainFrom, held, headSlot, linkSlot, clauseOfNode}
 use Rattle.layout.specs.Encodes.{Chain, nodesOf}
 use Rattle.validation.specs.Inner.Says.{Says}
 use Rattle.validation.specs.Inner.Cells.{CellsGood}
@@ -36,9 +36,6 @@ use Rattle.validation.proofs.SaysLaws.{says-false, says-alike}
 use Rattle.base.proofs.Occurrences.{times-more, map-back, times-map-least, times-map-is, times-map-in, once-distinct}
 
 -- the clause of a node
-abbrev half : ℕ → ℕ
-half n = (n - 1) / 2
-
 module _ (v c : ℕ) (numbers : List ℕ) where
   -- two chains from one slot are the same
   chain-unique : (slot : ℕ) (xs ys : List ℕ) → ((n : ℕ) → 0 < times n xs → 1 ≤ n) → ((n : ℕ) → 0 < times n ys → 1 ≤ n)
@@ -82,7 +79,7 @@ module _ (formula : Formula) (numbers : List ℕ) where
 
 -- the nodes of a clause in a list of nodes
 times-halves : (c : ℕ) (nodes : List ℕ) → ((n : ℕ) → 0 < times n nodes → 1 ≤ n)
-    → times c (map half nodes) ≡ times (2 * c + 1) nodes + times (2 * c + 2) nodes
+    → times c (map clauseOfNode nodes) ≡ times (2 * c + 1) nodes + times (2 * c + 2) nodes
 unfolding times
 times-halves c [] low = refl
 times-halves c (n ∷ nodes) low =
@@ -92,18 +89,18 @@ times-halves c (n ∷ nodes) low =
     some = low n (omega (arith, times-same n nodes))
 
     go : (n ≡ 2 * c + 1) ⊎ (n ≡ 2 * c + 1 → ⊥) → (n ≡ 2 * c + 2) ⊎ (n ≡ 2 * c + 2 → ⊥)
-        → times c (map half nodes) ≡ times (2 * c + 1) nodes + times (2 * c + 2) nodes
-        → times c (half n ∷ map half nodes) ≡ times (2 * c + 1) (n ∷ nodes) + times (2 * c + 2) (n ∷ nodes)
+        → times c (map clauseOfNode nodes) ≡ times (2 * c + 1) nodes + times (2 * c + 2) nodes
+        → times c (clauseOfNode n ∷ map clauseOfNode nodes) ≡ times (2 * c + 1) (n ∷ nodes) + times (2 * c + 2) (n ∷ nodes)
     go (inl e) f h =
-        let here : times c (half n ∷ map half nodes) ≡ suc (times c (map half nodes)) = let z : half n ≡ c = omega arith in rw z (times-same c (map half nodes)) in
+        let here : times c (clauseOfNode n ∷ map clauseOfNode nodes) ≡ suc (times c (map clauseOfNode nodes)) = let z : clauseOfNode n ≡ c = omega arith in rw z (times-same c (map clauseOfNode nodes)) in
         let first : times (2 * c + 1) (n ∷ nodes) ≡ suc (times (2 * c + 1) nodes) = rw e (times-same (2 * c + 1) nodes) in
         omega (arith, times-other (2 * c + 2) n nodes (λ z. omega arith))
     go (inr e) (inl f) h =
-        let here : times c (half n ∷ map half nodes) ≡ suc (times c (map half nodes)) = let z : half n ≡ c = omega arith in rw z (times-same c (map half nodes)) in
+        let here : times c (clauseOfNode n ∷ map clauseOfNode nodes) ≡ suc (times c (map clauseOfNode nodes)) = let z : clauseOfNode n ≡ c = omega arith in rw z (times-same c (map clauseOfNode nodes)) in
         let second : times (2 * c + 2) (n ∷ nodes) ≡ suc (times (2 * c + 2) nodes) = rw f (times-same (2 * c + 2) nodes) in
         omega (arith, times-other (2 * c + 1) n nodes (λ z. omega arith))
     go (inr e) (inr f) h =
-        omega (arith, some, times-other c (half n) (map half nodes) (λ z. let s = some in ⊎-elim (λ k. f (omega arith)) (λ k. e (omega arith)) (alike (n % 2) 0)), times-other (2 * c + 1) n nodes (λ z. e (sym z)), times-other (2 * c + 2) n nodes (λ z. f (sym z)))
+        omega (arith, some, times-other c (clauseOfNode n) (map clauseOfNode nodes) (λ z. let s = some in ⊎-elim (λ k. f (omega arith)) (λ k. e (omega arith)) (alike (n % 2) 0)), times-other (2 * c + 1) n nodes (λ z. e (sym z)), times-other (2 * c + 2) n nodes (λ z. f (sym z)))
 
 module _ (book numbers : List ℕ) (k : Looking book numbers) where
   abbrev formula : Formula
@@ -125,35 +122,35 @@ module _ (book numbers : List ℕ) (k : Looking book numbers) where
   many-is = clauses-counted book
 
   -- the literal of a node, by its clause
-  owner-few : (n : ℕ) → size formula (half n) < 2 → owner n ≡ 0
+  owner-few : (n : ℕ) → size formula (clauseOfNode n) < 2 → owner n ≡ 0
   unfolding ownerIn
-  owner-few n h = rw (lt-leb 2 (size formula (half n)) h)
+  owner-few n h = rw (lt-leb 2 (size formula (clauseOfNode n)) h)
 
-  owner-two : (n : ℕ) → 2 ≤ size formula (half n) → owner n ≡ watchLiteral formula cells n
+  owner-two : (n : ℕ) → 2 ≤ size formula (clauseOfNode n) → owner n ≡ watchLiteral formula cells n
   unfolding ownerIn
-  owner-two n h = rw (le-leb 2 (size formula (half n)) h)
+  owner-two n h = rw (le-leb 2 (size formula (clauseOfNode n)) h)
 
   owner-first : (c : ℕ) → 2 ≤ size formula c → owner (2 * c + 1) ≡ firstLiteral formula cells c
   unfolding watchLiteral
   owner-first c two =
-      let h : half (2 * c + 1) ≡ c = omega arith in
+      let h : clauseOfNode (2 * c + 1) ≡ c = omega arith in
       let odd : (2 * c + 1) % 2 ≡ 1 = omega arith in
       owner-two (2 * c + 1) (rw h two) ∙ rw (eq-eqb ((2 * c + 1) % 2) 1 odd, h)
 
   owner-second : (c : ℕ) → 2 ≤ size formula c → owner (2 * c + 2) ≡ secondLiteral formula cells c
   unfolding watchLiteral
   owner-second c two =
-      let h : half (2 * c + 2) ≡ c = omega arith in
+      let h : clauseOfNode (2 * c + 2) ≡ c = omega arith in
       let even : (2 * c + 2) % 2 ≡ 1 → ⊥ = λ e. omega arith in
       owner-two (2 * c + 2) (rw h two) ∙ rw (ne-eqb ((2 * c + 2) % 2) 1 even, h)
 
-  owned-two : (n : ℕ) → (owner n ≡ 0 → ⊥) → 2 ≤ size formula (half n)
-  owned-two n h = ⊎-elim (λ z. absurd (h (owner-few n z))) (λ z. z) (below (size formula (half n)) 2)
+  owned-two : (n : ℕ) → (owner n ≡ 0 → ⊥) → 2 ≤ size formula (clauseOfNode n)
+  owned-two n h = ⊎-elim (λ z. absurd (h (owner-few n z))) (λ z. z) (below (size formula (clauseOfNode n)) 2)
 
   owned-within : (n : ℕ) → (owner n ≡ 0 → ⊥) → n ≤ 2 * clausesOf book
   owned-within n h =
       let two = owned-two n h in
-      let inside : half n < length (formula .clauses) = clause-exists formula (half n) (omega arith) in
+      let inside : clauseOfNode n < length (formula .clauses) = clause-exists formula (clauseOfNode n) (omega arith) in
       omega (arith, many-is)
 
   standing-owners : (l c : ℕ) → 1 ≤ l
@@ -162,35 +159,35 @@ module _ (book numbers : List ℕ) (k : Looking book numbers) where
     where
       few : size formula c < 2 → standing formula (held formula numbers) l c ≡ one (eqb l (owner (2 * c + 1))) + one (eqb l (owner (2 * c + 2)))
       few h =
-          let a : half (2 * c + 1) ≡ c = omega arith in
-          let b : half (2 * c + 2) ≡ c = omega arith in
+          let a : clauseOfNode (2 * c + 1) ≡ c = omega arith in
+          let b : clauseOfNode (2 * c + 2) ≡ c = omega arith in
           rw (lt-leb 2 (size formula c) h, owner-few (2 * c + 1) (rw a h), owner-few (2 * c + 2) (rw b h), ne-eqb l 0 (λ e. omega arith))
 
       two : 2 ≤ size formula c → standing formula (held formula numbers) l c ≡ one (eqb l (owner (2 * c + 1))) + one (eqb l (owner (2 * c + 2)))
       two h = rw (le-leb 2 (size formula c) h, owner-first c h, owner-second c h)
 
-  node-back : (n l : ℕ) → 1 ≤ n → 1 ≤ l → owner n ≡ l → nodeOf formula cells l (half n) ≡ n
+  node-back : (n l : ℕ) → 1 ≤ n → 1 ≤ l → owner n ≡ l → nodeOf formula cells l (clauseOfNode n) ≡ n
   node-back n l low some own = ⊎-elim odd even (alike (n % 2) 1)
     where
-      two : 2 ≤ size formula (half n)
+      two : 2 ≤ size formula (clauseOfNode n)
       two = owned-two n (λ e. omega arith)
 
-      odd : n % 2 ≡ 1 → nodeOf formula cells l (half n) ≡ n
+      odd : n % 2 ≡ 1 → nodeOf formula cells l (clauseOfNode n) ≡ n
       odd o =
-          let is : n ≡ 2 * half n + 1 = omega arith in
-          let first : firstLiteral formula cells (half n) ≡ l = sym (owner-first (half n) two) ∙ ap owner (sym is) ∙ own in
-          ⊎-elim (λ p. p .1 ∙ sym is) (λ p. absurd (p .0 first)) (node-cases formula cells l (half n))
+          let is : n ≡ 2 * clauseOfNode n + 1 = omega arith in
+          let first : firstLiteral formula cells (clauseOfNode n) ≡ l = sym (owner-first (clauseOfNode n) two) ∙ ap owner (sym is) ∙ own in
+          ⊎-elim (λ p. p .1 ∙ sym is) (λ p. absurd (p .0 first)) (node-cases formula cells l (clauseOfNode n))
 
-      even : (n % 2 ≡ 1 → ⊥) → nodeOf formula cells l (half n) ≡ n
+      even : (n % 2 ≡ 1 → ⊥) → nodeOf formula cells l (clauseOfNode n) ≡ n
       even o =
-          let is : n ≡ 2 * half n + 2 = omega arith in
-          let second : secondLiteral formula cells (half n) ≡ l = sym (owner-second (half n) two) ∙ ap owner (sym is) ∙ own in
-          let w = k .cells .watching (half n) two in
+          let is : n ≡ 2 * clauseOfNode n + 2 = omega arith in
+          let second : secondLiteral formula cells (clauseOfNode n) ≡ l = sym (owner-second (clauseOfNode n) two) ∙ ap owner (sym is) ∙ own in
+          let w = k .cells .watching (clauseOfNode n) two in
           ⊎-elim
           (λ p.
           absurd
-          (literals-differ formula s (half n) (cellAt cells (half n) .first) (cellAt cells (half n) .second) (w .first-within) (w .second-within) (w .different) (p .0 ∙ sym second)))
-          (λ p. p .1 ∙ sym is) (node-cases formula cells l (half n))
+          (literals-differ formula s (clauseOfNode n) (cellAt cells (clauseOfNode n) .first) (cellAt cells (clauseOfNode n) .second) (w .first-within) (w .second-within) (w .different) (p .0 ∙ sym second)))
+          (λ p. p .1 ∙ sym is) (node-cases formula cells l (clauseOfNode n))
 
   -- all lists pass and all nodes: heads and links are good
   module _ (marks : List ℕ) (met : (l : ℕ) → 2 ≤ l → l ≤ 2 * variablesOf book + 1 → Met book numbers marks l) (looked : NodesGood book numbers marks) where
@@ -206,18 +203,18 @@ module _ (book numbers : List ℕ) (k : Looking book numbers) where
           pigeonhole (2 * clausesOf book) nodes (once-distinct nodes (met l low high .good .once))
           (λ x m. let o = met l low high .good .owned x (member-times x nodes m) in (o .0, o .1))
 
-      back-again : nodesOf formula cells l (map half nodes) ≡ nodes
+      back-again : nodesOf formula cells l (map clauseOfNode nodes) ≡ nodes
       back-again =
-          map-back (nodeOf formula cells l) half nodes (λ n h. node-back n l (positive n h) (omega arith) (met l low high .good .owned n h .2))
+          map-back (nodeOf formula cells l) clauseOfNode nodes (λ n h. node-back n l (positive n h) (omega arith) (met l low high .good .owned n h .2))
 
-      chain-back : Chain (formula .variables) (length (formula .clauses)) numbers (headSlot (formula .variables) (length (formula .clauses)) l) (nodesOf formula cells l (map half nodes))
+      chain-back : Chain (formula .variables) (length (formula .clauses)) numbers (headSlot (formula .variables) (length (formula .clauses)) l) (nodesOf formula cells l (map clauseOfNode nodes))
       chain-back = rw (back-again, many-is) (met l low high .good .chain)
 
-      list-is : listOf lists l ≡ map half nodes
+      list-is : listOf lists l ≡ map clauseOfNode nodes
       list-is =
           held-list formula numbers l low high
           ∙ chain-held (formula .variables) (length (formula .clauses)) numbers formula cells l (2 * length (formula .clauses)) (headSlot (formula .variables) (length (formula .clauses)) l)
-          (map half nodes) (rw (length-map nodes half) (let z = short in omega (arith, many-is))) chain-back
+          (map clauseOfNode nodes) (rw (length-map nodes clauseOfNode) (let z = short in omega (arith, many-is))) chain-back
 
       chain-is : Chain (formula .variables) (length (formula .clauses)) numbers (headSlot (formula .variables) (length (formula .clauses)) l) (nodesOf formula cells l (listOf lists l))
       chain-is = rw list-is chain-back
@@ -301,21 +298,21 @@ module _ (book numbers : List ℕ) (k : Looking book numbers) where
       abbrev listed-nodes : List ℕ
       listed-nodes = nodesOf formula cells l (listOf lists l)
 
-      back : (d : ℕ) → half (nodeOf formula cells l d) ≡ d
+      back : (d : ℕ) → clauseOfNode (nodeOf formula cells l d) ≡ d
       back = node-clause formula cells l
 
-      in-list : (n : ℕ) → 0 < times n listed-nodes → 0 < times (half n) (listOf lists l)
-      in-list n h = let z = times-map-least (nodeOf formula cells l) half back n (listOf lists l) in omega arith
+      in-list : (n : ℕ) → 0 < times n listed-nodes → 0 < times (clauseOfNode n) (listOf lists l)
+      in-list n h = let z = times-map-least (nodeOf formula cells l) clauseOfNode back n (listOf lists l) in omega arith
 
       node-owned : (n : ℕ) → 0 < times n listed-nodes → (1 ≤ n) × (n ≤ 2 * clausesOf book) × (owner n ≡ l)
       node-owned n h =
           let there = in-list n h in
-          let is : nodeOf formula cells l (half n) ≡ n = times-map-is (nodeOf formula cells l) half back n (listOf lists l) h in
-          let two : 2 ≤ size formula (half n) = listed-size structure l (half n) there in
-          let inside : half n < length (formula .clauses) = clause-exists formula (half n) (omega arith) in (
-            omega (arith, node-positive formula cells l (half n)),
-            omega (arith, node-within formula cells l (half n) (length (formula .clauses)) inside, many-is),
-            owner-two n two ∙ ap (watchLiteral formula cells) (sym is) ∙ node-literal formula s cells lists structure l (half n) there,
+          let is : nodeOf formula cells l (clauseOfNode n) ≡ n = times-map-is (nodeOf formula cells l) clauseOfNode back n (listOf lists l) h in
+          let two : 2 ≤ size formula (clauseOfNode n) = listed-size structure l (clauseOfNode n) there in
+          let inside : clauseOfNode n < length (formula .clauses) = clause-exists formula (clauseOfNode n) (omega arith) in (
+            omega (arith, node-positive formula cells l (clauseOfNode n)),
+            omega (arith, node-within formula cells l (clauseOfNode n) (length (formula .clauses)) inside, many-is),
+            owner-two n two ∙ ap (watchLiteral formula cells) (sym is) ∙ node-literal formula s cells lists structure l (clauseOfNode n) there,
           )
 
       listed-chain : Chain (variablesOf book) (clausesOf book) numbers (headSlot (variablesOf book) (clausesOf book) l) (nodesOf formula cells l (listOf lists l))
@@ -328,8 +325,8 @@ module _ (book numbers : List ℕ) (k : Looking book numbers) where
             chain = listed-chain;
             once =
                 λ n.
-                let z = times-map-least (nodeOf formula cells l) half back n (listOf lists l) in
-                let o = watched-once formula cells lists structure s l (half n) in
+                let z = times-map-least (nodeOf formula cells l) clauseOfNode back n (listOf lists l) in
+                let o = watched-once formula cells lists structure s l (clauseOfNode n) in
                 omega arith;
             owned = node-owned;
           }
@@ -341,11 +338,11 @@ module _ (book numbers : List ℕ) (k : Looking book numbers) where
             idle =
                 λ none.
                 rw many-is at
-                (good .is-held .in-lists .idle n low (omega (arith, many-is)) (⊎-elim (λ z. z) (λ z. absurd (watched-some z none)) (below (size formula (half n)) 2)));
+                (good .is-held .in-lists .idle n low (omega (arith, many-is)) (⊎-elim (λ z. z) (λ z. absurd (watched-some z none)) (below (size formula (clauseOfNode n)) 2)));
             met = λ some. go (at-node formula s cells lists structure n low (owned-two n some)) (owner-two n (owned-two n some));
           }
         where
-          watched-some : 2 ≤ size formula (half n) → owner n ≡ 0 → ⊥
+          watched-some : 2 ≤ size formula (clauseOfNode n) → owner n ≡ 0 → ⊥
           watched-some two none =
               let at = at-node formula s cells lists structure n low two in
               let b = literal-parts (formula .variables) (watchLiteral formula cells n) (at .within) in
@@ -356,8 +353,8 @@ module _ (book numbers : List ℕ) (k : Looking book numbers) where
               let l-in = literal-parts (formula .variables) (watchLiteral formula cells n) (at .within) in
               marked (watchLiteral formula cells n) (l-in .0) (l-in .1) own (at .stands-there) (at .is-node)
             where
-              marked : (l : ℕ) → 2 ≤ l → l ≤ 2 * variablesOf book + 1 → owner n ≡ l → 0 < times (half n) (listOf lists l)
-                  → nodeOf formula cells l (half n) ≡ n → 0 < getD marks n 0
+              marked : (l : ℕ) → 2 ≤ l → l ≤ 2 * variablesOf book + 1 → owner n ≡ l → 0 < times (clauseOfNode n) (listOf lists l)
+                  → nodeOf formula cells l (clauseOfNode n) ≡ n → 0 < getD marks n 0
               marked l a b own there is =
                   let m = met l a b in
                   let same : m .good .nodes ≡ nodesOf formula cells l (listOf lists l)
@@ -365,7 +362,7 @@ module _ (book numbers : List ℕ) (k : Looking book numbers) where
                   (nodesOf formula cells l (listOf lists l))
                   (λ x h. m .good .owned x h .0) (λ x h. node-owned l a b x h .0) (m .good .chain) (listed-chain l a b) in
                   let listed : 0 < times n (nodesOf formula cells l (listOf lists l))
-                  = rw is at (times-map-in (nodeOf formula cells l) (half n) (listOf lists l) there) in
+                  = rw is at (times-map-in (nodeOf formula cells l) (clauseOfNode n) (listOf lists l) there) in
                   rw (m .exact n own, same) listed
 
 -- what lists_pass answers

@@ -17,7 +17,7 @@ use Rattle.book.specs.Numbers.{variablesOf, clausesOf, startOf, clauseStart, fo
 use Rattle.book.proofs.PartLaws.{clauses-counted, clause-inside, clause-of-formula, length-clause}
 use Rattle.book.proofs.WellFormedLaws.{well-formed-parted}
 use Rattle.run.specs.Run.{clauseOf, size, cellAt}
-use Rattle.layout.specs.Layout.{watchesAt, watchLiteral, held, headSlot, linkSlot}
+use Rattle.layout.specs.Layout.{watchesAt, watchLiteral, held, headSlot, linkSlot, clauseOfNode, watchSlot}
 use Rattle.layout.specs.Encodes.{Chain, endSlot}
 use Rattle.validation.specs.Inner.Says.{Says}
 use Rattle.validation.specs.Inner.Lists.{ownerIn, Looking, ListGood, Marks, ListMarked, ListSays, Met, AllSays, NodeGood, NodesGood}
@@ -32,13 +32,13 @@ pub room : {book numbers : List ℕ} {variables clauses : ℕ} → Looking book 
 room k e f = record { variables-are = e; clauses-are = f; fits = k .fits }
 
 -- the position that the code reads
-pub position-is : (book numbers : List ℕ) (variables watches node before p : ℕ) → variables ≡ variablesOf book → watches ≡ watchesAt variables
-    → before ≡ node - 1 → p ≡ getD numbers (watches + before) 0 → p ≡ getD numbers (watchesAt (variablesOf book) + (node - 1)) 0
-position-is book numbers variables watches node before p e w f g = g ∙ rw (w, e, f)
+pub position-is : (book numbers : List ℕ) (variables node slot p : ℕ) → variables ≡ variablesOf book → slot ≡ watchSlot variables node
+    → p ≡ getD numbers slot 0 → p ≡ getD numbers (watchSlot (variablesOf book) node) 0
+position-is book numbers variables node slot p e w g = g ∙ rw (w, e)
 
 -- the literal of a node
 module _ (book numbers : List ℕ) (k : Looking book numbers) (node d s e : ℕ) (low : 1 ≤ node) (high : node ≤ 2 * clausesOf book)
-    (d-is : d ≡ (node - 1) / 2) (begin : s ≡ clauseStart book d) (end : e ≡ clauseStart book (d + 1)) where
+    (d-is : d ≡ clauseOfNode node) (begin : s ≡ clauseStart book d) (end : e ≡ clauseStart book (d + 1)) where
   inside : d < clausesOf book
   inside = omega arith
 
@@ -48,10 +48,10 @@ module _ (book numbers : List ℕ) (k : Looking book numbers) (node d s e : ℕ)
   pub owner-none : e - s < 2 → ownerIn book numbers node ≡ 0
   unfolding ownerIn
   owner-none h =
-      let few : size (formulaOf book) ((node - 1) / 2) < 2 = rw (← d-is, size-is) h in
-      rw (lt-leb 2 (size (formulaOf book) ((node - 1) / 2)) few)
+      let few : size (formulaOf book) (clauseOfNode node) < 2 = rw (← d-is, size-is) h in
+      rw (lt-leb 2 (size (formulaOf book) (clauseOfNode node)) few)
 
-  module _ (two : 2 ≤ e - s) (p : ℕ) (p-is : p ≡ getD numbers (watchesAt (variablesOf book) + (node - 1)) 0) where
+  module _ (two : 2 ≤ e - s) (p : ℕ) (p-is : p ≡ getD numbers (watchSlot (variablesOf book) node) 0) where
     big : 2 ≤ size (formulaOf book) d
     big = rw size-is two
 
@@ -68,7 +68,7 @@ module _ (book numbers : List ℕ) (k : Looking book numbers) (node d s e : ℕ)
             → (p < size (formulaOf book) d)
             × (watchLiteral (formulaOf book) (held (formulaOf book) numbers .cells) node ≡ getD (clauseOf (formulaOf book) d) p 0)
         odd o =
-            let at : watchesAt (variablesOf book) + (node - 1) ≡ watchesAt (variablesOf book) + 2 * d = omega arith in
+            let at : watchSlot (variablesOf book) node ≡ watchesAt (variablesOf book) + 2 * d = omega arith in
             let first : p ≡ cellAt (held (formulaOf book) numbers .cells) d .first
             = p-is ∙ ap (λ (x : ℕ). getD numbers x 0) at ∙ sym (ap (λ x. x .first) (held-cell (formulaOf book) numbers d within)) in
             (rw first (k .cells .watching d big .first-within), rw (eq-eqb (node % 2) 1 o, ← d-is, first))
@@ -77,7 +77,7 @@ module _ (book numbers : List ℕ) (k : Looking book numbers) (node d s e : ℕ)
             → (p < size (formulaOf book) d)
             × (watchLiteral (formulaOf book) (held (formulaOf book) numbers .cells) node ≡ getD (clauseOf (formulaOf book) d) p 0)
         even o =
-            let at : watchesAt (variablesOf book) + (node - 1) ≡ watchesAt (variablesOf book) + 2 * d + 1 = omega arith in
+            let at : watchSlot (variablesOf book) node ≡ watchesAt (variablesOf book) + 2 * d + 1 = omega arith in
             let second : p ≡ cellAt (held (formulaOf book) numbers .cells) d .second
             = p-is ∙ ap (λ (x : ℕ). getD numbers x 0) at ∙ sym (ap (λ x. x .second) (held-cell (formulaOf book) numbers d within)) in
             (rw second (k .cells .watching d big .second-within), rw (ne-eqb (node % 2) 1 o, ← d-is, second))
@@ -88,10 +88,10 @@ module _ (book numbers : List ℕ) (k : Looking book numbers) (node d s e : ℕ)
     owner-some : ownerIn book numbers node ≡ getD book (s + p) 0
     unfolding ownerIn
     owner-some =
-        let many : 2 ≤ size (formulaOf book) ((node - 1) / 2) = rw (← d-is) big in
+        let many : 2 ≤ size (formulaOf book) (clauseOfNode node) = rw (← d-is) big in
         let shorter : p < startOf book (suc d) - startOf book d
         = rw (ap length (clause-of-formula book d inside) ∙ length-clause book (well-formed-parted book (k .well)) d inside) at (watch-read .0) in
-        rw (le-leb 2 (size (formulaOf book) ((node - 1) / 2)) many)
+        rw (le-leb 2 (size (formulaOf book) (clauseOfNode node)) many)
         (watch-read .1 ∙ ap (λ (xs : List ℕ). getD xs p 0) (clause-of-formula book d inside)
         ∙ getD-take (startOf book (suc d) - startOf book d) (drop (clauseStart book d) book) p 0 shorter
         ∙ getD-drop (clauseStart book d) book p 0 ∙ ap (λ (x : ℕ). getD book (x + p) 0) (sym begin))

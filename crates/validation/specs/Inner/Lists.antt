@@ -8,7 +8,7 @@ use Rattle.base.specs.Lists.{times}
 use Rattle.book.specs.Formula.{Formula, maxClauses}
 use Rattle.run.specs.Run.{size, listOf}
 use Rattle.run.specs.Valid.{standing}
-use Rattle.layout.specs.Layout.{Fits, held, watchLiteral, headSlot, linkSlot}
+use Rattle.layout.specs.Layout.{Fits, held, watchLiteral, headSlot, linkSlot, clauseOfNode}
 use Rattle.layout.specs.Encodes.{WatchesHeld, Chain}
 use lib.Dec.{leb}
 use Rattle.book.specs.Numbers.{variablesOf, clausesOf, formulaOf, wellFormed}
@@ -22,7 +22,7 @@ pub record ListsGood (formula : Formula) (numbers : List ℕ) : Type 0 where
 -- the literal whose list a node belongs to; 0 where its clause has no watches
 unfoldable pub ownerIn : List ℕ → List ℕ → ℕ → ℕ
 ownerIn book numbers node =
-    cond (leb 2 (size (formulaOf book) ((node - 1) / 2))) (watchLiteral (formulaOf book) (held (formulaOf book) numbers .cells) node) 0
+    cond (leb 2 (size (formulaOf book) (clauseOfNode node))) (watchLiteral (formulaOf book) (held (formulaOf book) numbers .cells) node) 0
 
 -- what is known when the lists are looked at
 pub record Looking (book numbers : List ℕ) : Type 0 where

@@ -8,7 +8,7 @@ use Rattle.book.specs.Formula.{maxClause}
 use Rattle.book.specs.Numbers.{variablesOf, clausesOf, clauseStart, formulaOf}
 use Rattle.run.specs.Run.{clauseOf, cellOf}
 use Rattle.run.specs.Scan.{scan}
-use Rattle.layout.specs.Layout.{Fits, lengthAt, decisionsAt, conflictAt, checksAt}
+use Rattle.layout.specs.Layout.{Fits, lengthAt, decisionsAt, conflictAt, checksAt, clauseOfNode}
 use Rattle.engine.specs.Inner.Lists.{Standing}
 use Rattle.engine.specs.Inner.Trail.{assignNums}
 use Rattle.engine.specs.Inner.Scan.{scannedIn}
@@ -16,7 +16,7 @@ use Rattle.engine.specs.Inner.Visit.{Seeking}
 use Rattle.engine.specs.declared.lists.Walk.{Walk}
 use Rattle.engine.specs.declared.scan.Scan.the-variants.{Found, Nothing}
 use Rattle.layout.proofs.FitsLaws.{fits-kept, fits-trail}
-use Rattle.engine.proofs.visit.SpotLaws.{half, Spot, spot, spot-fits, spot-standing}
+use Rattle.engine.proofs.visit.SpotLaws.{Spot, spot, spot-fits, spot-standing}
 use Rattle.engine.proofs.visit.SeekLaws.{seeking-scannable, seeking-scanned, found-literal, found-bounds, visited-moved, visited-conflict, implied-asks, visited-implied}
 use borrow.Author.Needs.{needs}
 use Rattle.engine.proofs.visit.seek.Statement.{statement}
@@ -28,127 +28,133 @@ variables-requires c κs = search needs
 clauses-requires : tie.Need-clauses-requires
 clauses-requires c κs = search needs
 
-wide-requires : tie.Need-wide-requires
-wide-requires c κs = search needs
+clause-of-node-requires : tie.Need-clause-of-node-requires
+clause-of-node-requires c κs = spot-standing (c .before .before .before .before .pre .at) _ _ (c .before .variables .ensures) (c .clauses .ensures) .some
 
 -- the entry, and what is read of the book
-abbrev start : (c : tie.After-wide) → tie.Start
+abbrev start : (c : tie.After-clause-of-node) → tie.Start
 start c = c .before .before .before .before .before
 
-abbrev book : (c : tie.After-wide) → List ℕ
+abbrev book : (c : tie.After-clause-of-node) → List ℕ
 book c = start c .args .book .now
 
-abbrev session : (c : tie.After-wide) → List ℕ
+abbrev session : (c : tie.After-clause-of-node) → List ℕ
 session c = start c .args .session .now
 
-abbrev walk : (c : tie.After-wide) → Walk
+abbrev walk : (c : tie.After-clause-of-node) → Walk
 walk c = start c .args .walk
 
-abbrev variables : (c : tie.After-wide) → ℕ
+abbrev variables : (c : tie.After-clause-of-node) → ℕ
 variables c = c .before .before .variables .result
 
-abbrev clauses : (c : tie.After-wide) → ℕ
+abbrev clauses : (c : tie.After-clause-of-node) → ℕ
 clauses c = c .before .clauses .result
 
-variables-are : (c : tie.After-wide) → variables c ≡ variablesOf (book c)
+variables-are : (c : tie.After-clause-of-node) → variables c ≡ variablesOf (book c)
 variables-are c = c .before .before .variables .ensures
 
-clauses-are : (c : tie.After-wide) → clauses c ≡ clausesOf (book c)
+clauses-are : (c : tie.After-clause-of-node) → clauses c ≡ clausesOf (book c)
 clauses-are c = c .before .clauses .ensures
 
-abbrev Sought : (c : tie.After-wide) → Type 0
+abbrev Sought : (c : tie.After-clause-of-node) → Type 0
 Sought c = Seeking (book c) (session c) (walk c) (start c .args .other) (start c .args .dead)
 
 -- the clause at which the walk stands
-spot-at : (c : tie.After-wide) → Spot (book c) (session c) (walk c)
+spot-at : (c : tie.After-clause-of-node) → Spot (book c) (session c) (walk c)
 spot-at c = spot (start c .pre .at)
 
-fits-at : (c : tie.After-wide) → Fits (variables c) (clauses c) (session c)
+fits-at : (c : tie.After-clause-of-node) → Fits (variables c) (clauses c) (session c)
 fits-at c = spot-fits (start c .pre .at) _ _ (variables-are c) (clauses-are c)
 
-standing-at : (c : tie.After-wide) → Standing (variables c) (clauses c) (walk c)
+standing-at : (c : tie.After-clause-of-node) → Standing (variables c) (clauses c) (walk c)
 standing-at c = spot-standing (start c .pre .at) _ _ (variables-are c) (clauses-are c)
 
-abbrev at-checks-at : tie.After-checks-at → tie.After-wide
+abbrev at-checks-at : tie.After-checks-at → tie.After-clause-of-node
 at-checks-at c = c .before
 
 count-is : (c : tie.After-checks-at)
-    → c .checks-at .result + half ((at-checks-at c) .wide .result)
-    ≡ checksAt (variables (at-checks-at c)) (clauses (at-checks-at c)) + half (walk (at-checks-at c) .node)
-count-is c = omega (arith, c .checks-at .ensures, ap half ((at-checks-at c) .wide .ensures))
+    → c .checks-at .result + (at-checks-at c) .clause-of-node .result
+    ≡ checksAt (variables (at-checks-at c)) (clauses (at-checks-at c)) + clauseOfNode (walk (at-checks-at c) .node)
+count-is c = omega (arith, c .checks-at .ensures, at-checks-at c .clause-of-node .ensures)
 
-abbrev at-position : tie.After-position → tie.After-wide
+abbrev at-position : tie.After-position → tie.After-clause-of-node
 at-position c = c .before .before .before .before .before
 
 -- what the scan answers
 scanned : (c : tie.After-position) (seeking : Sought (at-position c))
     → scannedIn (Found (c .position .given .0 .0) (c .position .given .0 .1 .0))
     ≡ scan (seeking .at .run .trail) (clauseOf (formulaOf (book (at-position c))) (seeking .at .clause)) (cellOf (seeking .at .run) (seeking .at .clause))
-scanned c seeking = seeking-scanned seeking _ _ _ (c .position .given .1) (ap half ((at-position c) .wide .ensures)) (c .before .before .scan-at .ensures)
+scanned c seeking = seeking-scanned seeking _ _ _ (c .position .given .1) (at-position c .clause-of-node .ensures) (c .before .before .scan-at .ensures)
 
-abbrev at-made : tie.After-made → tie.After-wide
+abbrev at-made : tie.After-made → tie.After-clause-of-node
 at-made c = c .before .before .before .before .before
 
 missed : (c : tie.After-made) (seeking : Sought (at-made c))
     → scannedIn (Nothing (c .made .given .0 .0))
     ≡ scan (seeking .at .run .trail) (clauseOf (formulaOf (book (at-made c))) (seeking .at .clause)) (cellOf (seeking .at .run) (seeking .at .clause))
-missed c seeking = seeking-scanned seeking _ _ _ (c .made .given .1) (ap half ((at-made c) .wide .ensures)) (c .before .before .scan-at .ensures)
+missed c seeking = seeking-scanned seeking _ _ _ (c .made .given .1) (at-made c .clause-of-node .ensures) (c .before .before .scan-at .ensures)
 
-abbrev at-clause-start : tie.After-clause-start → tie.After-wide
+abbrev at-clause-start : tie.After-clause-start → tie.After-clause-of-node
 at-clause-start c = c .before .before .before .before .before .before .before
 
 -- the literal at the position found
-start-is : (c : tie.After-clause-start) → c .clause-start .result ≡ clauseStart (book (at-clause-start c)) (half (walk (at-clause-start c) .node))
-start-is c = c .clause-start .ensures ∙ ap (λ (x : ℕ). clauseStart (book (at-clause-start c)) (half x)) ((at-clause-start c) .wide .ensures)
+start-is : (c : tie.After-clause-start) → c .clause-start .result ≡ clauseStart (book (at-clause-start c)) (clauseOfNode (walk (at-clause-start c) .node))
+start-is c = c .clause-start .ensures ∙ ap (clauseStart (book (at-clause-start c))) (at-clause-start c .clause-of-node .ensures)
 
-found : (c : tie.After-clause-start) (seeking : Sought (at-clause-start c))
-    → (c .before .before .position .given .0 .0 < maxClause)
-    × (c .clause-start .result + c .before .before .position .given .0 .0 < length (book (at-clause-start c)))
-    × (getD (book (at-clause-start c)) (c .clause-start .result + c .before .before .position .given .0 .0) 0
-    ≡ getD (clauseOf (formulaOf (book (at-clause-start c))) (seeking .at .clause)) (c .before .before .position .given .0 .0) 0)
+found : (c : tie.After-clause-start) →
+    let after-position = c .before .before in
+    (seeking : Sought (at-clause-start c))
+    → (after-position .position .given .0 .0 < maxClause)
+    × (c .clause-start .result + after-position .position .given .0 .0 < length (book (at-clause-start c)))
+    × (getD (book (at-clause-start c)) (c .clause-start .result + after-position .position .given .0 .0) 0
+    ≡ getD (clauseOf (formulaOf (book (at-clause-start c))) (seeking .at .clause)) (after-position .position .given .0 .0) 0)
 found c seeking = found-literal seeking _ _ (scanned (c .before .before) seeking) _ (start-is c)
 
-to-bounds : (c : tie.After-clause-start)
-    → (2 ≤ getD (book (at-clause-start c)) (c .clause-start .result + c .before .before .position .given .0 .0) 0)
-    × (getD (book (at-clause-start c)) (c .clause-start .result + c .before .before .position .given .0 .0) 0 ≤ 2 * variables (at-clause-start c) + 1)
+to-bounds : (c : tie.After-clause-start) →
+    let after-position = c .before .before in
+    (2 ≤ getD (book (at-clause-start c)) (c .clause-start .result + after-position .position .given .0 .0) 0)
+    × (getD (book (at-clause-start c)) (c .clause-start .result + after-position .position .given .0 .0) 0 ≤ 2 * variables (at-clause-start c) + 1)
 to-bounds c =
     let pre = start (at-clause-start c) .pre in
     let b = found-bounds pre _ _ (scanned (c .before .before) pre) in
     (rw (found c pre .2) (b .0), rw (found c pre .2) (omega (arith, b .1, variables-are (at-clause-start c))))
 
-abbrev at-take-out : tie.After-take-out → tie.After-wide
+abbrev at-take-out : tie.After-take-out → tie.After-clause-of-node
 at-take-out c = c .before .before .before .before .before .before .before .before .before .before
 
 -- the numbers are as many as before, store by store
 taken-length : (c : tie.After-take-out) → length (c .take-out .last .0) ≡ length (session (at-take-out c))
 taken-length c = c .take-out .ensures .only .same-length
 
-abbrev at-set-watch : tie.After-set-watch → tie.After-wide
+abbrev at-set-watch : tie.After-set-watch → tie.After-clause-of-node
 at-set-watch c = c .before .before .before .before .before .before .before .before .before .before .before .before .before .before
 
 stored-length : (c : tie.After-set-watch) → length (c .set-watch .last .0) ≡ length (session (at-set-watch c))
-stored-length c = ap length (c .set-watch .ensures) ∙ simp length-set (taken-length (c .before .before .before .before))
+stored-length c =
+    let after-take-out = c .before .before .before .before in
+    ap length (c .set-watch .ensures) ∙ simp length-set (taken-length after-take-out)
 
-abbrev at-push-front : tie.After-push-front → tie.After-wide
+abbrev at-push-front : tie.After-push-front → tie.After-clause-of-node
 at-push-front c = c .before .before .before .before .before .before .before .before .before .before .before .before .before .before .before .before .before .before
 
 pushed-length : (c : tie.After-push-front) → length (c .push-front .last .0) ≡ length (session (at-push-front c))
-pushed-length c = c .push-front .ensures .only .same-length ∙ stored-length (c .before .before .before .before)
+pushed-length c =
+    let after-set-watch = c .before .before .before .before in
+    c .push-front .ensures .only .same-length ∙ stored-length after-set-watch
 
-abbrev at-add-checks2 : tie.After-add-checks2 → tie.After-wide
+abbrev at-add-checks2 : tie.After-add-checks2 → tie.After-clause-of-node
 at-add-checks2 c = c .before .before .before .before .before .before .before .before
 
 counted-length : (c : tie.After-add-checks2) → length (c .add-checks2 .last .0) ≡ length (session (at-add-checks2 c))
 counted-length c = ap length (c .add-checks2 .ensures) ∙ simp length-set
 
-abbrev at-assign : tie.After-assign → tie.After-wide
+abbrev at-assign : tie.After-assign → tie.After-clause-of-node
 at-assign c = c .before .before .before .before .before .before .before .before .before .before .before .before .before .before
 
 assigned-length : (c : tie.After-assign) → length (c .assign .last .0) ≡ length (session (at-assign c))
-assigned-length c = ap length (c .assign .ensures) ∙ simp length-set (counted-length (c .before .before .before .before .before .before))
-
-sub-c : tie.Need-sub-c
-sub-c c = let s = standing-at c in omega arith
+assigned-length c =
+    let after-add-checks2 = c .before .before .before .before .before .before in
+    ap length (c .assign .ensures) ∙ simp length-set (counted-length after-add-checks2)
 
 checks-at-requires : tie.Need-checks-at-requires
 checks-at-requires c κs = let f = fits-at c in (f .few-variables, f .few-clauses)
@@ -159,7 +165,7 @@ add-count c = let f = fits-at (c .before) in let s = standing-at (c .before) in 
 scan-at-requires : tie.Need-scan-at-requires
 scan-at-requires c κs =
     let here = c .before .before in
-    seeking-scannable (start here .pre) _ (ap half (here .wide .ensures))
+    seeking-scannable (start here .pre) _ (here .clause-of-node .ensures)
 
 enum-known-position : tie.Need-enum-known-position
 enum-known-position c = search needs
@@ -167,16 +173,22 @@ enum-known-position c = search needs
 clause-start-requires : tie.Need-clause-start-requires
 clause-start-requires c κs =
     let here = c .before .before .before .before .before .before in
-    (start here .pre .at .well, let s = spot-at here in let e = here .wide .ensures in omega (arith, s .inside))
+    (start here .pre .at .well, let s = spot-at here in let e = here .clause-of-node .ensures in omega (arith, s .inside))
 
 add-to : tie.Need-add-to
-add-to c = let f = found c (start (c .before .before .before .before .before .before .before) .pre) in omega arith
+add-to c =
+    let here = at-clause-start c in
+    let f = found c (start here .pre) in omega arith
 
 mul-to : tie.Need-mul-to
-mul-to c = let f = found c (start (c .before .before .before .before .before .before .before) .pre) in omega arith
+mul-to c =
+    let here = at-clause-start c in
+    let f = found c (start here .pre) in omega arith
 
 shared-slice-read-to : tie.Need-shared-slice-read-to
-shared-slice-read-to c = found (c .before) (start (c .before .before .before .before .before .before .before .before) .pre) .1
+shared-slice-read-to c =
+    let here = c .before .before .before .before .before .before .before .before in
+    found (c .before) (start here .pre) .1
 
 take-out-requires : tie.Need-take-out-requires
 take-out-requires c κs =
@@ -185,7 +197,9 @@ take-out-requires c κs =
 
 cast-set-watch : tie.Need-cast-set-watch
 cast-set-watch c =
-    let f = found (c .before .before .before .before .before .before) (start (c .before .before .before .before .before .before .before .before .before .before .before .before .before) .pre) in omega arith
+    let after-clause-start = c .before .before .before .before .before .before in
+    let here = at-clause-start after-clause-start in
+    let f = found after-clause-start (start here .pre) in omega arith
 
 set-watch-requires : tie.Need-set-watch-requires
 set-watch-requires c κs =
@@ -194,17 +208,19 @@ set-watch-requires c κs =
 
 push-front-requires : tie.Need-push-front-requires
 push-front-requires c κs =
-    let here = c .before .before .before .before .before .before .before .before .before .before .before .before .before .before .before .before .before in
+    let after-clause-start = c .before .before .before .before .before .before .before .before .before .before in
+    let here = at-clause-start after-clause-start in
     let s = standing-at here in
-    let b = to-bounds (c .before .before .before .before .before .before .before .before .before .before) in
+    let b = to-bounds after-clause-start in
     (fits-kept (stored-length (c .before .before .before)) (fits-at here), b .0, b .1, s .some, s .node-within)
 
 add-checks-requires : tie.Need-add-checks-requires
 add-checks-requires c κs =
-    let here = c .before .before .before .before .before .before .before .before .before .before .before .before .before .before .before .before .before .before .before .before .before in
+    let after-checks-at = c .before .before .before .before .before .before .before .before .before .before .before .before .before .before .before .before .before .before .before .before in
+    let here = after-checks-at .before in
     let f = fits-at here in
     let s = standing-at here in
-    let n = count-is (c .before .before .before .before .before .before .before .before .before .before .before .before .before .before .before .before .before .before .before .before) in
+    let n = count-is after-checks-at in
     omega (arith, pushed-length (c .before .before .before), f .long)
 
 enum-known-made : tie.Need-enum-known-made
@@ -212,10 +228,11 @@ enum-known-made c = search needs
 
 add-checks-requires-2 : tie.Need-add-checks-requires-2
 add-checks-requires-2 c κs =
-    let here = c .before .before .before .before .before .before .before in
+    let after-checks-at = c .before .before .before .before .before .before in
+    let here = after-checks-at .before in
     let f = fits-at here in
     let s = standing-at here in
-    let n = count-is (c .before .before .before .before .before .before) in
+    let n = count-is after-checks-at in
     omega (arith, f .long)
 
 cast-session : tie.Need-cast-session
@@ -230,24 +247,32 @@ slice-write-session c = search needs
 same-length : tie.Need-same-length
 same-length c = search needs
 
+abbrev after-checks-at-of-after-made : tie.After-made → tie.After-checks-at
+after-checks-at-of-after-made c = c .before .before .before .before
+
 returns : tie.Need-returns
 returns c =
-    let here = c .before .before .before .before .before .before .before .before .before .before .before in
-    λ seeking. visited-conflict seeking _ (missed (c .before .before .before .before .before .before) seeking) (c .if1 .taken)
+    let after-made = c .before .before .before .before .before .before in
+    let after-checks-at = after-checks-at-of-after-made after-made in
+    let here = after-checks-at .before in
+    λ seeking. visited-conflict seeking _ (missed after-made seeking) (c .if1 .taken)
     (variables here) (clauses here) _ _ _ (variables-are here) (clauses-are here)
-    (count-is (c .before .before .before .before .before .before .before .before .before .before)) (ap (λ (x : ℕ). half x + 1) (here .wide .ensures))
-    (ap (λ (s : List ℕ). set s conflictAt (half (here .wide .result) + 1)) (c .before .before .before .add-checks2 .ensures))
+    (count-is after-checks-at) (ap (λ (x : ℕ). x + 1) (here .clause-of-node .ensures))
+    (ap (λ (s : List ℕ). set s conflictAt (here .clause-of-node .result + 1)) (c .before .before .before .add-checks2 .ensures))
 
 slice-read-level : tie.Need-slice-read-level
 slice-read-level c = search needs
 
 assign-requires : tie.Need-assign-requires
 assign-requires c κs =
-    let here = c .before .before .before .before .before .before .before .before .before .before .before .before .before in
+    let after-add-checks2 = c .before .before .before .before .before in
+    let after-made = after-add-checks2 .before .before .before in
+    let after-checks-at = after-checks-at-of-after-made after-made in
+    let here = after-checks-at .before in
     let f = fits-at here in
-    let asks = implied-asks (start here .pre) _ (missed (c .before .before .before .before .before .before .before .before) (start here .pre)) (c .before .before .if1 .left) (variables here) (clauses here) _ (variables-are here) (clauses-are here) (count-is (c .before .before .before .before .before .before .before .before .before .before .before .before)) in
-    let count = ap (λ (s : List ℕ). getD s lengthAt 0) (c .before .before .before .before .before .add-checks2 .ensures) in
-    let long = counted-length (c .before .before .before .before .before) in
+    let asks = implied-asks (start here .pre) _ (missed after-made (start here .pre)) (c .before .before .if1 .left) (variables here) (clauses here) _ (variables-are here) (clauses-are here) (count-is after-checks-at) in
+    let count = ap (λ (s : List ℕ). getD s lengthAt 0) (after-add-checks2 .add-checks2 .ensures) in
+    let long = counted-length after-add-checks2 in
     (fits-trail (fits-kept long f), omega (arith, asks .0, variables-are here), asks .1, omega (arith, asks .2, variables-are here))
 
 keep-requires : tie.Need-keep-requires
@@ -260,23 +285,34 @@ same-length-2 c = search needs
 
 returns-2 : tie.Need-returns-2
 returns-2 c =
-    let here = c .before .before .before .before .before .before .before .before .before .before .before .before .before .before .before .before .before .before .before .before .before .before .before .before in
-    λ seeking. visited-moved seeking _ _ (scanned (c .before .before .before .before .before .before .before .before .before .before .before .before .before .before .before .before .before .before .before) seeking)
-    (variables here) (clauses here) _ _ (c .before .before .before .before .before .before .before .before .before .before .before .before .before .before .take-out .result)
-    (variables-are here) (clauses-are here) (count-is (c .before .before .before .before .before .before .before .before .before .before .before .before .before .before .before .before .before .before .before .before .before .before .before)) (found (c .before .before .before .before .before .before .before .before .before .before .before .before .before .before .before .before .before) seeking .2)
-    (c .before .before .before .before .before .before .before .before .before .before .before .before .before .before .take-out .ensures) (c .before .before .before .before .before .before .before .before .before .before .set-watch .ensures) (c .before .before .before .before .before .before .push-front .ensures) (c .before .before .add-checks .ensures)
+    let after-push-front = c .before .before .before .before .before .before in
+    let after-set-watch = after-push-front .before .before .before .before in
+    let after-take-out = after-set-watch .before .before .before .before in
+    let after-clause-start = after-take-out .before .before .before in
+    let after-position = after-clause-start .before .before in
+    let after-checks-at = after-position .before .before .before .before in
+    let here = after-checks-at .before in
+    λ seeking. visited-moved seeking _ _ (scanned after-position seeking)
+    (variables here) (clauses here) _ _ (after-take-out .take-out .result)
+    (variables-are here) (clauses-are here) (count-is after-checks-at) (found after-clause-start seeking .2)
+    (after-take-out .take-out .ensures) (after-set-watch .set-watch .ensures) (after-push-front .push-front .ensures) (c .before .before .add-checks .ensures)
 
 same-length-3 : tie.Need-same-length-3
 same-length-3 c = search needs
 
 returns-3 : tie.Need-returns-3
 returns-3 c =
-    let here = c .before .before .before .before .before .before .before .before .before .before .before .before .before .before .before .before .before .before in
-    λ seeking. visited-implied seeking _ (missed (c .before .before .before .before .before .before .before .before .before .before .before .before .before) seeking) (c .before .before .before .before .before .before .before .if1 .left)
-    (variables here) (clauses here) _ (getD (c .before .before .before .before .before .before .before .before .before .before .add-checks2 .last .0) decisionsAt 0) _ (c .keep .result)
-    (variables-are here) (clauses-are here) (count-is (c .before .before .before .before .before .before .before .before .before .before .before .before .before .before .before .before .before))
-    (ap (λ (s : List ℕ). getD s decisionsAt 0) (c .before .before .before .before .before .before .before .before .before .before .add-checks2 .ensures))
-    (c .before .before .before .before .assign .ensures ∙ ap (λ (s : List ℕ). assignNums (variables here) s (start here .args .other) (getD (c .before .before .before .before .before .before .before .before .before .before .add-checks2 .last .0) decisionsAt 0)) (c .before .before .before .before .before .before .before .before .before .before .add-checks2 .ensures))
+    let after-assign = c .before .before .before .before in
+    let else1 = after-assign .before .before .before in
+    let after-add-checks2 = else1 .before .before .before in
+    let after-made = after-add-checks2 .before .before .before in
+    let after-checks-at = after-checks-at-of-after-made after-made in
+    let here = after-checks-at .before in
+    λ seeking. visited-implied seeking _ (missed after-made seeking) (else1 .if1 .left)
+    (variables here) (clauses here) _ (getD (after-add-checks2 .add-checks2 .last .0) decisionsAt 0) _ (c .keep .result)
+    (variables-are here) (clauses-are here) (count-is after-checks-at)
+    (ap (λ (s : List ℕ). getD s decisionsAt 0) (after-add-checks2 .add-checks2 .ensures))
+    (after-assign .assign .ensures ∙ ap (λ (s : List ℕ). assignNums (variables here) s (start here .args .other) (getD (after-add-checks2 .add-checks2 .last .0) decisionsAt 0)) (after-add-checks2 .add-checks2 .ensures))
     (c .keep .ensures)
 
 pub seek-spec : {M : Type 1} → statement M
@@ -285,8 +321,7 @@ seek-spec =
     (tie.spec
     variables-requires
     clauses-requires
-    wide-requires
-    sub-c
+    clause-of-node-requires
     checks-at-requires
     add-count
     scan-at-requires

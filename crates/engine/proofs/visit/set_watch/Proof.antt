@@ -5,17 +5,8 @@ use borrow.Author.Needs.{needs}
 use Rattle.engine.proofs.visit.set_watch.Statement.{statement}
 use Rattle.engine.proofs.visit.set_watch.Tie as tie
 
-wide-requires : tie.Need-wide-requires
-wide-requires c κs = search needs
-
-sub-watch : tie.Need-sub-watch
-sub-watch c = search needs
-
-watches-at-requires : tie.Need-watches-at-requires
-watches-at-requires c κs = search needs
-
-add-session : tie.Need-add-session
-add-session c = search needs
+watch-slot-requires : tie.Need-watch-slot-requires
+watch-slot-requires c κs = search needs
 
 mul-session : tie.Need-mul-session
 mul-session c = search needs
@@ -26,8 +17,11 @@ slice-write-session c = search needs
 pointers-at-requires : tie.Need-pointers-at-requires
 pointers-at-requires c κs = search needs
 
-add-session-2 : tie.Need-add-session-2
-add-session-2 c = search needs
+clause-of-node-requires : tie.Need-clause-of-node-requires
+clause-of-node-requires c κs = search needs
+
+add-session : tie.Need-add-session
+add-session c = search needs
 
 mul-session-2 : tie.Need-mul-session-2
 mul-session-2 c = search needs
@@ -39,20 +33,18 @@ same-length : tie.Need-same-length
 same-length c = search needs
 
 returns : tie.Need-returns
-returns c = rw (c .before .watches-at .ensures, c .pointers-at .ensures, c .before .before .wide .ensures)
+returns c = rw (c .before .before .watch-slot .ensures, c .before .pointers-at .ensures, c .clause-of-node .ensures)
 
 pub set-watch-spec : {M : Type 1} → statement M
 set-watch-spec =
     tie.close
     (tie.spec
-    wide-requires
-    sub-watch
-    watches-at-requires
-    add-session
+    watch-slot-requires
     mul-session
     slice-write-session
     pointers-at-requires
-    add-session-2
+    clause-of-node-requires
+    add-session
     mul-session-2
     slice-write-session-2
     same-length

@@ -12,17 +12,14 @@ use Rattle.validation.proofs.lists.owner.Statement.{statement}
 use Rattle.validation.proofs.lists.owner.Tie as tie
 
 -- from behind the position to the clause, and from there to the start
-abbrev clause-of : tie.After-wide3 → tie.After-clause-start2
-clause-of c = c .before .before .before .before .before .before
+abbrev clause-of : tie.After-wide → tie.After-clause-start2
+clause-of c = c .before .before .before .before .before
 
 abbrev start-of : tie.After-clause-start2 → tie.Start
 start-of c = c .before .before .before .before .before
 
-sub-wide : tie.Need-sub-wide
-sub-wide c = search needs
-
-wide-requires : tie.Need-wide-requires
-wide-requires c κs = search needs
+clause-of-node-requires : tie.Need-clause-of-node-requires
+clause-of-node-requires c κs = search needs
 
 clause-start-requires : tie.Need-clause-start-requires
 clause-start-requires c κs = (c .before .before .before .pre .0 .well, omega arith)
@@ -37,7 +34,7 @@ sub-if1 : tie.Need-sub-if1
 sub-if1 c =
     omega (
       arith,
-      clause-inside _ (well-formed-parted _ (start-of c .pre .0 .well)) (c .before .before .wide .result) (c .before .clause-start .result)
+      clause-inside _ (well-formed-parted _ (start-of c .pre .0 .well)) (c .before .before .clause-of-node .result) (c .before .clause-start .result)
           (c .clause-start2 .result) (omega arith) (c .before .clause-start .ensures) (c .clause-start2 .ensures),
     )
 
@@ -45,24 +42,15 @@ returns : tie.Need-returns
 returns c =
     let clause = c .before in
     sym
-    (owner-none _ _ (start-of clause .pre .0) _ (clause .before .before .wide .result) (clause .before .clause-start .result)
-    (clause .clause-start2 .result) (omega arith) (omega arith) (clause .before .before .wide .ensures) (clause .before .clause-start .ensures)
+    (owner-none _ _ (start-of clause .pre .0) _ (clause .before .before .clause-of-node .result) (clause .before .clause-start .result)
+    (clause .clause-start2 .result) (omega arith) (omega arith) (clause .before .before .clause-of-node .ensures) (clause .before .clause-start .ensures)
     (clause .clause-start2 .ensures) (omega arith))
 
 variables-requires : tie.Need-variables-requires
 variables-requires c κs = search needs
 
-watches-at-requires : tie.Need-watches-at-requires
-watches-at-requires c κs = search needs
-
-sub-wide-2 : tie.Need-sub-wide-2
-sub-wide-2 c = search needs
-
-wide-requires-2 : tie.Need-wide-requires-2
-wide-requires-2 c κs = search needs
-
-add-watch : tie.Need-add-watch
-add-watch c = search needs
+watch-slot-requires : tie.Need-watch-slot-requires
+watch-slot-requires c κs = search needs
 
 mul-wide : tie.Need-mul-wide
 mul-wide c = search needs
@@ -70,22 +58,22 @@ mul-wide c = search needs
 shared-slice-read-wide : tie.Need-shared-slice-read-wide
 shared-slice-read-wide c = search needs
 
-wide-requires-3 : tie.Need-wide-requires-3
-wide-requires-3 c κs = search needs
+wide-requires : tie.Need-wide-requires
+wide-requires c κs = search needs
 
 -- what is read is a literal of the book, and the owner
-owned : (c : tie.After-wide3) →
+owned : (c : tie.After-wide) →
     let args = start-of (clause-of c) .args in
-    let at = clause-of c .before .clause-start .result + c .wide3 .result in
+    let at = clause-of c .before .clause-start .result + c .wide .result in
     (at < length (args .book .now)) × (ownerIn (args .book .now) (args .session .now) (args .node) ≡ getD (args .book .now) at 0)
 owned c =
     let clause = clause-of c in
     let start = start-of clause in
-    owner-read _ _ (start .pre .0) _ (clause .before .before .wide .result) (clause .before .clause-start .result) (clause .clause-start2 .result)
-    (omega arith) (omega arith) (clause .before .before .wide .ensures) (clause .before .clause-start .ensures) (clause .clause-start2 .ensures)
-    (omega arith) (c .wide3 .result)
-    (position-is (start .args .book .now) (start .args .session .now) _ _ (start .args .node) _ _ (c .before .before .before .before .variables .ensures)
-    (c .before .before .before .watches-at .ensures) (c .before .before .wide2 .ensures) (c .wide3 .ensures))
+    owner-read _ _ (start .pre .0) _ (clause .before .before .clause-of-node .result) (clause .before .clause-start .result) (clause .clause-start2 .result)
+    (omega arith) (omega arith) (clause .before .before .clause-of-node .ensures) (clause .before .clause-start .ensures) (clause .clause-start2 .ensures)
+    (omega arith) (c .wide .result)
+    (position-is (start .args .book .now) (start .args .session .now) _ (start .args .node) _ _ (c .before .before .before .variables .ensures)
+    (c .before .before .watch-slot .ensures) (c .wide .ensures))
 
 add-result : tie.Need-add-result
 add-result c = omega (arith, owned c)
@@ -103,21 +91,17 @@ pub owner-spec : {M : Type 1} → statement M
 owner-spec =
     tie.close
     (tie.spec
-    sub-wide
-    wide-requires
+    clause-of-node-requires
     clause-start-requires
     add-clause-start
     clause-start-requires-2
     sub-if1
     returns
     variables-requires
-    watches-at-requires
-    sub-wide-2
-    wide-requires-2
-    add-watch
+    watch-slot-requires
     mul-wide
     shared-slice-read-wide
-    wide-requires-3
+    wide-requires
     add-result
     mul-result
     shared-slice-read-result
