@@ -1,19 +1,10 @@
 -- The laws of `book` that proofs cite.
 pub mod Accepted
-pub mod BodyLaws
-pub mod ClauseLaws
-pub mod ClausesSoFar
-pub mod CursorLaws
 pub mod DecimalLaws
 pub mod Digits
 pub mod FaultLaws
-pub mod FormLaws
-pub mod HeaderLaws
 pub mod LeastFault
-pub mod LineLaws
-pub mod MarkLaws
 pub mod NumberLaws
-pub mod ParseLaws
 pub mod PartLaws
 pub mod PrintRead
 pub mod ReadIsWalk
@@ -21,4 +12,5 @@ pub mod ReadLaws
 pub mod SoundLaws
 pub mod WalkAccepts
 pub mod WellFormedLaws
+pub mod WordLaws
 pub mod WordPlaces

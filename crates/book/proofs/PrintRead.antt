@@ -18,11 +18,11 @@ use Rattle.book.specs.Reading.{maxText, accepted, readText}
 use Rattle.book.specs.Printer.{printNumber, printLiteral, printClause, printText}
 use Rattle.book.specs.Inner.Walk.{tokensOf, walkUnder, walkStart}
 use Rattle.book.specs.Inner.Words.{wordsLine, wordsBehind, wordsHere, wordsStart}
-use Rattle.book.proofs.LineLaws.{line-word, line-blank, line-end, word-not-end, behind-byte, behind-end, start-plain, start-none, walk-behind, walk-lines, header-line}
+use Rattle.book.proofs.WordLaws.{line-word, line-blank, line-end, word-not-end, behind-byte, behind-end, start-plain, start-none, walk-behind, walk-lines, header-line}
 use Rattle.book.proofs.ReadIsWalk.{read-is-walk}
 use Rattle.book.proofs.SoundLaws.{literal-parts, clause-parts, FormulaParts, formula-parts}
 use Rattle.book.proofs.WalkAccepts.{clauseTokens, tokensFor, clauses-walk}
-use Rattle.book.proofs.ParseLaws.{within-limits}
+use Rattle.book.proofs.parse.Laws.{within-limits}
 use Rattle.book.proofs.DecimalLaws.{token-plain}
 use Rattle.book.proofs.Digits.{number-printed, printed-unsigned, digit-not-blank, digits-begin}
 

@@ -16,7 +16,7 @@ use Rattle.book.specs.Faults.{opened, closed, written, notNumber, overVa
 use Rattle.book.specs.Reading.{maxText, before, least, onto, clausesIn, formulaUnder, formulaIn, Judged, refused, accepted, judged, readText}
 use Rattle.book.specs.Inner.Walk.{walk, tokensOf, walkUnder, walkLines}
 use Rattle.book.specs.Inner.Words.{others, wordsBehind}
-use Rattle.book.proofs.LineLaws.{split-first, behind-end, behind-byte}
+use Rattle.book.proofs.WordLaws.{split-first, behind-end, behind-byte}
 use Rattle.book.proofs.WordPlaces.{placesRise, Rises, rises}
 use Rattle.book.proofs.LeastFault.{fault-at, least-fault, later-before, words-later, judged-cond, tests, at-word, one-fault}
 

@@ -11,7 +11,7 @@ use Rattle.book.specs.Text.{linesOf}
 use Rattle.book.specs.Reading.{Judged, refused, accepted, readText, maxText}
 use Rattle.book.specs.Answer.{readAnswer, numbersAfter}
 use Rattle.book.specs.Inner.Walk.{walkLines}
-use Rattle.book.specs.Inner.Bodies.{Read}
+use Rattle.book.specs.Inner.Parse.{Read}
 use Rattle.book.specs.declared.Reading.{Reading}
 use Rattle.book.specs.declared.Reading.the-variants.{Book, Refused}
 use Rattle.book.proofs.ReadIsWalk.{read-is-walk}

@@ -12,7 +12,7 @@ use Rattle.base.specs.Lists.{begins, until}
 use Rattle.book.specs.Text.{Piece, blank, lineEnd}
 use Rattle.base.proofs.Until.{until-more, until-none, until-stop}
 use Rattle.book.specs.Inner.Words.{wordsBehind, wordsHere, wordsStart}
-use Rattle.book.proofs.LineLaws.{behind-none, behind-end, behind-byte, start-none, here-none, here-end, here-blank, here-word, start-plain, start-behind}
+use Rattle.book.proofs.WordLaws.{behind-none, behind-end, behind-byte, start-none, here-none, here-end, here-blank, here-word, start-plain, start-behind}
 
 -- each place is at least the first number, above the one before, and below the end
 unfoldable pub placesRise : ℕ → ℕ → List Piece → Bool

@@ -1,8 +1,10 @@
 -- What the contracts of private functions cite.
-pub mod Steps
 pub mod Words
 pub mod Walk
-pub mod Heads
+pub mod Bytes
+pub mod Cursor
+pub mod Header
 pub mod Marks
-pub mod Bodies
+pub mod Body
+pub mod Parse
 pub mod Form

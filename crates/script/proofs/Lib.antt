@@ -1,5 +1,3 @@
--- The laws of `script`: lines read, bytes written, decimal digits.
+-- The laws of `script` that proofs cite.
 pub mod LineLaws
 pub mod LongLines
-pub mod WritingLaws
-pub mod DigitLaws

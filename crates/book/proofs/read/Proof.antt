@@ -1,7 +1,7 @@
 -- `read` meets its contract: each way out is a case of the answer. Assumes nothing.
 use mathlib.Core.Path.{_≡_, subst, sym}
 use native.Mathlib.Omega.{arith}
-use Rattle.book.specs.Inner.Bodies.{ParsedSays, Read}
+use Rattle.book.specs.Inner.Parse.{ParsedSays, Read}
 use Rattle.book.specs.declared.parse.Parsed.{Parsed}
 use Rattle.book.proofs.FaultLaws.{too-long}
 use Rattle.book.proofs.ReadLaws.{answer-refused, read-walked, read-short, read-book}

@@ -1,7 +1,7 @@
 -- `write_back` meets its contract. Assumes nothing.
 use mathlib.Core.Path.{ap}
 use Rattle.script.specs.Answers.{bytes, backLine}
-use Rattle.script.proofs.WritingLaws.{appends-both, appends-as, line-written}
+use Rattle.script.proofs.writing.Laws.{appends-both, appends-as, line-written}
 use borrow.Author.Needs.{needs}
 use Rattle.script.proofs.write_back.Statement.{statement}
 use Rattle.script.proofs.write_back.Tie as tie

@@ -1,7 +1,7 @@
 -- `write_clause` meets its contract. Assumes nothing.
 use mathlib.Core.Path.{ap}
 use Rattle.script.specs.Answers.{bytes, clauseLine}
-use Rattle.script.proofs.WritingLaws.{appends-both, appends-as, line-written}
+use Rattle.script.proofs.writing.Laws.{appends-both, appends-as, line-written}
 use borrow.Author.Needs.{needs}
 use Rattle.script.proofs.write_clause.Statement.{statement}
 use Rattle.script.proofs.write_clause.Tie as tie

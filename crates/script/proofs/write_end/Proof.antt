@@ -2,7 +2,7 @@
 use Prim.Native.Nat.{ℕ}
 use mathlib.Core.Path.{ap₂}
 use Rattle.script.specs.Answers.{bytes, endLine}
-use Rattle.script.proofs.WritingLaws.{appends-both, appends-as, line-written}
+use Rattle.script.proofs.writing.Laws.{appends-both, appends-as, line-written}
 use borrow.Author.Needs.{needs}
 use Rattle.script.proofs.write_end.Statement.{statement}
 use Rattle.script.proofs.write_end.Tie as tie

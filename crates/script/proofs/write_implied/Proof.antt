@@ -1,6 +1,6 @@
 -- `write_implied` meets its contract. Assumes nothing.
 use Rattle.script.specs.Answers.{bytes, impliedLine}
-use Rattle.script.proofs.WritingLaws.{appends-both, line-written}
+use Rattle.script.proofs.writing.Laws.{appends-both, line-written}
 use borrow.Author.Needs.{needs}
 use Rattle.script.proofs.write_implied.Statement.{statement}
 use Rattle.script.proofs.write_implied.Tie as tie

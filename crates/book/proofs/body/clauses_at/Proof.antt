@@ -4,9 +4,9 @@ use mathlib.Core.Path.{_≡_, subst}
 use native.Mathlib.Omega.{arith}
 use borrow.Author.Needs.{needs}
 use lib.ListN.{length}
-use Rattle.book.specs.Inner.Steps.{Stepped}
+use Rattle.book.specs.Inner.Cursor.{Stepped}
 use Rattle.book.specs.declared.cursor.Step.{Step}
-use Rattle.book.proofs.ClausesSoFar.{ClausesSoFar, so-far-start, so-far-invalid, so-far-open, so-far-few, so-far-all, so-far-short, so-far-close, so-far-fault, total-below, so-far-literal}
+use Rattle.book.proofs.body.LoopLaws.{ClausesSoFar, so-far-start, so-far-invalid, so-far-open, so-far-few, so-far-all, so-far-short, so-far-close, so-far-fault, total-below, so-far-literal}
 use Rattle.book.proofs.body.clauses_at.Statement.{statement}
 use Rattle.book.proofs.body.clauses_at.Tie as tie
 

@@ -7,7 +7,7 @@ use native.Mathlib.Omega.{arith}
 use lib.Dec.{eqb}
 use lib.ListN.{getD, set}
 use Rattle.book.specs.Formula.{variableOf}
-use Rattle.book.proofs.BodyLaws.{fault-over, fault-long, fault-repeated, fault-surplus, fault-literals, fault-none}
+use Rattle.book.proofs.body.Laws.{fault-over, fault-long, fault-repeated, fault-surplus, fault-literals, fault-none}
 use borrow.Author.Needs.{needs}
 use Rattle.book.proofs.body.literal_fault.Statement.{statement}
 use Rattle.book.proofs.body.literal_fault.Tie as tie

@@ -5,7 +5,7 @@ use native.Mathlib.Omega.{arith}
 use borrow.Author.Needs.{needs}
 use borrow.Author.Tests.{not-true, not-false}
 use lib.ListN.{length}
-use Rattle.book.proofs.CursorLaws.{Gap, gap-none, gap-blank, gap-line, gap-ends, gap-ends-last}
+use Rattle.book.proofs.cursor.Laws.{Gap, gap-none, gap-blank, gap-line, gap-ends, gap-ends-last}
 use Rattle.book.proofs.cursor.gap_end.Statement.{statement}
 use Rattle.book.proofs.cursor.gap_end.Tie as tie
 

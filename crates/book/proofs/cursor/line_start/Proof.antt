@@ -2,7 +2,7 @@
 use Prim.Native.Nat.{_-_}
 use borrow.Author.Needs.{needs}
 use lib.ListN.{length}
-use Rattle.book.proofs.CursorLaws.{Skipped, skipped-none, skipped-line, line-falls, line-starts, line-starts-last}
+use Rattle.book.proofs.cursor.Laws.{Skipped, skipped-none, skipped-line, line-falls, line-starts, line-starts-last}
 use Rattle.book.proofs.cursor.line_start.Statement.{statement}
 use Rattle.book.proofs.cursor.line_start.Tie as tie
 

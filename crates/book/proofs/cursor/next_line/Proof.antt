@@ -2,7 +2,7 @@
 use native.Mathlib.Omega.{arith}
 use borrow.Author.Needs.{needs}
 use lib.ListN.{drop, length-drop}
-use Rattle.book.proofs.CursorLaws.{line-closed, line-open}
+use Rattle.book.proofs.cursor.Laws.{line-closed, line-open}
 use Rattle.book.proofs.cursor.next_line.Statement.{statement}
 use Rattle.book.proofs.cursor.next_line.Tie as tie
 

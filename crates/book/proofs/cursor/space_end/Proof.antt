@@ -4,7 +4,7 @@ use mathlib.Core.Path.{sym, _∙_}
 use borrow.Author.Needs.{needs}
 use borrow.Author.Tests.{not-true, not-false}
 use lib.ListN.{length}
-use Rattle.book.proofs.CursorLaws.{Space, space-none, space-blank, space-ends-line, space-ends-word, space-ends-last}
+use Rattle.book.proofs.cursor.Laws.{Space, space-none, space-blank, space-ends-line, space-ends-word, space-ends-last}
 use Rattle.book.proofs.cursor.space_end.Statement.{statement}
 use Rattle.book.proofs.cursor.space_end.Tie as tie
 

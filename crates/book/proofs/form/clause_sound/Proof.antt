@@ -4,8 +4,8 @@ use Prim.Native.Nat.{_-_, _/_, _≤_}
 use mathlib.Core.Path.{sym, _∙_}
 use native.Mathlib.Omega.{arith}
 use lib.ListN.{length}
-use Rattle.book.proofs.ClauseLaws.{Passed, passed-none, passed-more, passed-all, refuse-empty, refuse-long, refuse-low, refuse-high, refuse-repeated}
-use Rattle.book.proofs.MarkLaws.{marked-more}
+use Rattle.book.proofs.form.ClauseLaws.{Passed, passed-none, passed-more, passed-all, refuse-empty, refuse-long, refuse-low, refuse-high, refuse-repeated}
+use Rattle.book.proofs.marks.Laws.{marked-more}
 use Rattle.book.proofs.form.clause_sound.Statement.{statement}
 use Rattle.book.proofs.form.clause_sound.Tie as tie
 

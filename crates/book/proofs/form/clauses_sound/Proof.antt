@@ -10,8 +10,8 @@ use Rattle.base.specs.Lists.{all}
 use Rattle.book.specs.Formula.{soundClause}
 use Rattle.book.specs.Inner.Marks.{Bounded}
 use Rattle.book.specs.Numbers.{clauseStart, clausesFrom, clauseAt}
-use Rattle.book.proofs.FormLaws.{clauses-more, clauses-stop, clauses-end}
-use Rattle.book.proofs.MarkLaws.{bounded-fresh, marked-none}
+use Rattle.book.proofs.form.Laws.{clauses-more, clauses-stop, clauses-end}
+use Rattle.book.proofs.marks.Laws.{bounded-fresh, marked-none}
 use Rattle.book.proofs.PartLaws.{clause-between, clause-inside}
 use Rattle.book.proofs.form.clauses_sound.Statement.{statement}
 use Rattle.book.proofs.form.clauses_sound.Tie as tie

@@ -4,7 +4,7 @@ use Prim.Native.Nat.{_-_, _≤_}
 use mathlib.Core.Path.{_≡_, sym, _∙_, ap}
 use native.Mathlib.Omega.{arith}
 use Rattle.book.specs.Numbers.{rising}
-use Rattle.book.proofs.FormLaws.{rising-more, rising-stop, rising-end}
+use Rattle.book.proofs.form.Laws.{rising-more, rising-stop, rising-end}
 use Rattle.book.proofs.form.starts_rise.Statement.{statement}
 use Rattle.book.proofs.form.starts_rise.Tie as tie
 

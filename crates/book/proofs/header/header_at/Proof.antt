@@ -5,13 +5,13 @@ use mathlib.Core.List.{List, [], _∷_}
 use native.Mathlib.Omega.{arith}
 use borrow.Author.Tests.{eq-eqb, ne-eqb}
 use Rattle.book.specs.Text.{header, unsigned, decimal}
-use Rattle.book.specs.Inner.Steps.{SteppedInLine}
-use Rattle.book.specs.Inner.Heads.{WordPasses, KeywordSays, FieldSays}
+use Rattle.book.specs.Inner.Cursor.{SteppedInLine}
+use Rattle.book.specs.Inner.Header.{WordPasses, KeywordSays, FieldSays}
 use Rattle.book.specs.declared.cursor.LineWord.{LineWord}
 use Rattle.book.specs.declared.header.Keyword.{Keyword}
 use Rattle.book.specs.declared.header.Field.{Field}
 use Rattle.base.proofs.Lists.{begins-at, begins-end}
-use Rattle.book.proofs.HeaderLaws.{isP, isCnf, first-fails, second-fails, third-fails, fourth-fails, fifth-word, well-headed, tokens-behind, malformed-first, malformed-words, well-formed-header}
+use Rattle.book.proofs.header.Laws.{isP, isCnf, first-fails, second-fails, third-fails, fourth-fails, fifth-word, well-headed, tokens-behind, malformed-first, malformed-words, well-formed-header}
 use borrow.Author.Needs.{needs}
 use Rattle.book.proofs.header.header_at.Statement.{statement}
 use Rattle.book.proofs.header.header_at.Tie as tie

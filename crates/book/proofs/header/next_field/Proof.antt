@@ -2,10 +2,10 @@
 use mathlib.Core.Path.{_≡_, sym, _∙_, subst}
 use native.Mathlib.Omega.{arith}
 use Rattle.book.specs.Text.{unsigned}
-use Rattle.book.specs.Inner.Steps.{SteppedInLine}
+use Rattle.book.specs.Inner.Cursor.{SteppedInLine}
 use Rattle.book.specs.declared.cursor.LineWord.{LineWord}
 use Rattle.book.proofs.DecimalLaws.{word-unsigned, word-not-unsigned}
-use Rattle.book.proofs.HeaderLaws.{field-passes, word-fails, line-fails}
+use Rattle.book.proofs.header.Laws.{field-passes, word-fails, line-fails}
 use borrow.Author.Needs.{needs}
 use Rattle.book.proofs.header.next_field.Statement.{statement}
 use Rattle.book.proofs.header.next_field.Tie as tie

@@ -4,9 +4,9 @@ use mathlib.Core.List.{List}
 use mathlib.Core.Path.{_≡_, sym, _∙_, subst}
 use native.Mathlib.Omega.{arith}
 use Rattle.base.specs.Lists.{same}
-use Rattle.book.specs.Inner.Steps.{SteppedInLine}
+use Rattle.book.specs.Inner.Cursor.{SteppedInLine}
 use Rattle.book.specs.declared.cursor.LineWord.{LineWord}
-use Rattle.book.proofs.HeaderLaws.{word-passes, word-fails, line-fails}
+use Rattle.book.proofs.header.Laws.{word-passes, word-fails, line-fails}
 use borrow.Author.Needs.{needs}
 use Rattle.book.proofs.header.next_keyword.Statement.{statement}
 use Rattle.book.proofs.header.next_keyword.Tie as tie

@@ -6,11 +6,11 @@ use native.Mathlib.Omega.{arith}
 use lib.ListN.{length, length-set}
 use Rattle.book.specs.Text.{header, linesOf}
 use Rattle.book.specs.Inner.Walk.{walk, walkUnder, walkLines}
-use Rattle.book.specs.Inner.Steps.{tokensHere}
-use Rattle.book.specs.Inner.Heads.{HeaderSays}
-use Rattle.book.specs.Inner.Bodies.{BodySays}
+use Rattle.book.specs.Inner.Cursor.{tokensHere}
+use Rattle.book.specs.Inner.Header.{HeaderSays}
+use Rattle.book.specs.Inner.Body.{BodySays}
 use Rattle.book.specs.declared.body.Body.{Body}
-use Rattle.book.proofs.ParseLaws.{text-start, outside-none, outside-variables, outside-clauses, within-limits, header-refused, header-taken, written-front}
+use Rattle.book.proofs.parse.Laws.{text-start, outside-none, outside-variables, outside-clauses, within-limits, header-refused, header-taken, written-front}
 use borrow.Author.Needs.{needs}
 use Rattle.book.proofs.parse.parse.Statement.{statement}
 use Rattle.book.proofs.parse.parse.Tie as tie

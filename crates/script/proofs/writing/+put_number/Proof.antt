@@ -1,8 +1,8 @@
 -- `put_number` meets its contract: the digits of the tenth part, then the last digit. The measure is the number. Assumes nothing.
 use native.Mathlib.Omega.{arith}
 use borrow.Author.Needs.{needs}
-use Rattle.script.proofs.WritingLaws.{appends-both, appends-as}
-use Rattle.script.proofs.DigitLaws.{numeral-one, numeral-more}
+use Rattle.script.proofs.writing.Laws.{appends-both, appends-as}
+use Rattle.script.proofs.writing.DigitLaws.{numeral-one, numeral-more}
 use Prim.Native.Nat.{ℕ, _/_, _<_}
 use mathlib.Core.Path.{sym, ap, _∙_}
 use mathlib.Core.List.{[], _∷_, _++_}

@@ -1,5 +1,5 @@
 -- `put` meets its contract. Assumes nothing.
-use Rattle.script.proofs.WritingLaws.{appends-full, appends-one}
+use Rattle.script.proofs.writing.Laws.{appends-full, appends-one}
 use borrow.Author.Needs.{needs}
 use Rattle.script.proofs.writing.put.Statement.{statement}
 use Rattle.script.proofs.writing.put.Tie as tie

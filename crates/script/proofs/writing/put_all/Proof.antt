@@ -2,7 +2,7 @@
 use Prim.Native.Nat.{_-_}
 use borrow.Author.Needs.{needs}
 use lib.ListN.{length}
-use Rattle.script.proofs.WritingLaws.{Putting, putting-none, putting-more, putting-all}
+use Rattle.script.proofs.writing.Laws.{Putting, putting-none, putting-more, putting-all}
 use Rattle.script.proofs.writing.put_all.Statement.{statement}
 use Rattle.script.proofs.writing.put_all.Tie as tie
 

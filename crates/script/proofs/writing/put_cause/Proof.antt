@@ -1,7 +1,7 @@
 -- `put_cause` meets its contract. Assumes nothing.
 use mathlib.Core.Path.{ap, sym}
 use Rattle.script.specs.Answers.{bytes, callWords}
-use Rattle.script.proofs.WritingLaws.{appends-both, appends-as}
+use Rattle.script.proofs.writing.Laws.{appends-both, appends-as}
 use borrow.Author.Needs.{needs}
 use Rattle.script.proofs.writing.put_cause.Statement.{statement}
 use Rattle.script.proofs.writing.put_cause.Tie as tie

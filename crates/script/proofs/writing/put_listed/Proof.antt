@@ -4,7 +4,7 @@ use mathlib.Core.Path.{_∙_}
 use native.Mathlib.Omega.{arith}
 use borrow.Author.Needs.{needs}
 use lib.ListN.{length}
-use Rattle.script.proofs.WritingLaws.{Listing, listing-none, listing-more, listing-all, appends-both}
+use Rattle.script.proofs.writing.Laws.{Listing, listing-none, listing-more, listing-all, appends-both}
 use Rattle.script.proofs.writing.put_listed.Statement.{statement}
 use Rattle.script.proofs.writing.put_listed.Tie as tie
 

@@ -3,8 +3,8 @@ use mathlib.Core.Path.{sym, ap, _∙_}
 use mathlib.Core.List.{_∷_}
 use Prim.Native.Nat.{ℕ}
 use Rattle.script.specs.Answers.{numeral}
-use Rattle.script.proofs.WritingLaws.{appends-both, appends-as}
-use Rattle.script.proofs.DigitLaws.{signed-negative, signed-positive}
+use Rattle.script.proofs.writing.Laws.{appends-both, appends-as}
+use Rattle.script.proofs.writing.DigitLaws.{signed-negative, signed-positive}
 use borrow.Author.Needs.{needs}
 use Rattle.script.proofs.writing.put_literal.Statement.{statement}
 use Rattle.script.proofs.writing.put_literal.Tie as tie

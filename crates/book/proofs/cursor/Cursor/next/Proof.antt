@@ -3,8 +3,8 @@ use mathlib.Core.Path.{ap, sym, _∙_}
 use native.Mathlib.Omega.{arith}
 use Rattle.base.proofs.Until.{until-within}
 use Rattle.book.specs.Text.{blank}
-use Rattle.book.specs.Inner.Steps.{tokenIn}
-use Rattle.book.proofs.CursorLaws.{no-word, next-word}
+use Rattle.book.specs.Inner.Bytes.{tokenIn}
+use Rattle.book.proofs.cursor.Laws.{no-word, next-word}
 use borrow.Author.Needs.{needs}
 use Rattle.book.proofs.cursor.Cursor.next.Statement.{statement}
 use Rattle.book.proofs.cursor.Cursor.next.Tie as tie

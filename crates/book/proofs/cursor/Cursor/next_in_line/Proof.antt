@@ -1,5 +1,5 @@
 -- `Cursor::next_in_line` meets its contract: behind the space stands the word, or the line ends. Assumes nothing.
-use Rattle.book.proofs.CursorLaws.{line-ends, next-in-line}
+use Rattle.book.proofs.cursor.Laws.{line-ends, next-in-line}
 use borrow.Author.Needs.{needs}
 use Rattle.book.proofs.cursor.Cursor.next_in_line.Statement.{statement}
 use Rattle.book.proofs.cursor.Cursor.next_in_line.Tie as tie

@@ -15,7 +15,7 @@ use Rattle.base.proofs.Members.{distinct-more, distinct-front}
 use Rattle.book.specs.Formula.{variableOf, literalWithin, soundClause}
 use Rattle.book.specs.Inner.Marks.{Marked}
 use Rattle.book.proofs.SoundLaws.{literal-parts, literal-whole, clause-parts, clause-whole, clause-literal}
-use Rattle.book.proofs.MarkLaws.{marked-test, marked-more}
+use Rattle.book.proofs.marks.Laws.{marked-test, marked-more}
 
 module _ (variables : ℕ) (clause : List ℕ) where
   pub refuse-empty : length clause < 1 → soundClause variables clause ≡ false

@@ -1,4 +1,4 @@
--- What the contracts of the private functions of the reader say: words, lines, gaps and steps of the cursor.
+-- What the contracts of the private functions of the cursor say: its lines, gaps and steps from word to word.
 use Prim.Native.Nat.{ℕ, _-_, _≤_, _<_}
 use mathlib.Core.Path.{_≡_}
 use mathlib.Core.Bool.{true, false}
@@ -8,17 +8,10 @@ use Rattle.base.specs.Lists.{begins}
 use Rattle.book.specs.Text.{Piece, Token, literal, close, invalid, blank}
 use Rattle.book.specs.Inner.Words.{wordsHere, wordsStart, wordsLine, wordsBehind}
 use Rattle.book.specs.Inner.Walk.{tokensOf, walkStart}
-use Rattle.book.specs.declared.bytes.Word.{Word}
-use Rattle.book.specs.declared.bytes.Word.the-variants as w
 use Rattle.book.specs.declared.cursor.Step.{Step}
 use Rattle.book.specs.declared.cursor.Step.the-variants as s
 use Rattle.book.specs.declared.cursor.LineWord.{LineWord}
 use Rattle.book.specs.declared.cursor.LineWord.the-variants as l
-
-abbrev pub tokenIn : Word → Token
-tokenIn (w.Literal l) = literal l
-tokenIn w.Close = close
-tokenIn w.Invalid = invalid
 
 -- From the start of a line at `at`, the lines up to r are skipped, and the one at r is not.
 pub record LineStart (text : List ℕ) (at r : ℕ) : Type 0 where

@@ -16,7 +16,7 @@ use Rattle.book.specs.Numbers.{starts}
 use Rattle.book.specs.Text.{Token, literal, close, invalid}
 use Rattle.book.specs.Reading.{Judged, refused, accepted}
 use Rattle.book.specs.Inner.Walk.{walk}
-use Rattle.book.specs.Inner.Bodies.{Written, literalFault}
+use Rattle.book.specs.Inner.Body.{Written, literalFault}
 
 -- the tests of a literal, one after the other
 module _ (variables clauses closed opened total : ℕ) (repeated : Bool) (l : ℕ) where

@@ -14,9 +14,9 @@ use Rattle.book.specs.Text.{Token, linesOf, header}
 use Rattle.book.specs.Faults.{outside}
 use Rattle.book.specs.Reading.{refused}
 use Rattle.book.specs.Inner.Walk.{walk, walkUnder, walkStart, walkLines}
-use Rattle.book.specs.Inner.Steps.{LineStart}
-use Rattle.book.specs.Inner.Bodies.{Written}
-use Rattle.book.proofs.LineLaws.{walk-lines}
+use Rattle.book.specs.Inner.Cursor.{LineStart}
+use Rattle.book.specs.Inner.Body.{Written}
+use Rattle.book.proofs.WordLaws.{walk-lines}
 
 -- the answer to a text is the answer at its first line that is not skipped
 pub text-start : (text : List ℕ) (at : ℕ) → LineStart text 0 at → walkLines (linesOf text) ≡ walkStart at (drop at text)

@@ -11,9 +11,9 @@ use Rattle.book.specs.Text.{unsigned, decimal, header, headed, headerIn}
 use Rattle.book.specs.Reading.{refused}
 use Rattle.book.specs.Inner.Words.{wordsBehind}
 use Rattle.book.specs.Inner.Walk.{tokensOf, walkUnder, walkStart}
-use Rattle.book.specs.Inner.Steps.{lineWords, tokensHere, NextInLine, LineEnds}
-use Rattle.book.specs.Inner.Heads.{WordPasses, WordFails, none, other}
-use Rattle.book.proofs.LineLaws.{walk-behind, header-line}
+use Rattle.book.specs.Inner.Cursor.{lineWords, tokensHere, NextInLine, LineEnds}
+use Rattle.book.specs.Inner.Header.{WordPasses, WordFails, none, other}
+use Rattle.book.proofs.WordLaws.{walk-behind, header-line}
 
 module _ (test : List ℕ → Bool) (text : List ℕ) (at : ℕ) where
   pub word-passes : (from next : ℕ) → NextInLine text at from next → test (take (next - from) (drop from text)) ≡ true → WordPasses test text at next

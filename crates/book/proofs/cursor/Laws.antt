@@ -15,8 +15,8 @@ use Rattle.base.proofs.Until.{until-stop, until-more, take-until, until-within}
 use Rattle.book.specs.Text.{Piece, Token, blank, lineEnd, tokenOf}
 use Rattle.book.specs.Inner.Walk.{tokensOf, walkStart}
 use Rattle.book.specs.Inner.Words.{wordsHere, wordsStart, wordsLine, wordsBehind, lineLength}
-use Rattle.book.specs.Inner.Steps.{LineStart, GapEnd, SpaceEnd, tokensHere, NextWord, NextInLine, LineEnds}
-use Rattle.book.proofs.LineLaws.{here-none, here-end, here-blank, here-word, line-none, line-end, line-blank, line-word, behind-byte, behind-word, start-plain, start-skipped, walk-skipped}
+use Rattle.book.specs.Inner.Cursor.{LineStart, GapEnd, SpaceEnd, tokensHere, NextWord, NextInLine, LineEnds}
+use Rattle.book.proofs.WordLaws.{here-none, here-end, here-blank, here-word, line-none, line-end, line-blank, line-word, behind-byte, behind-word, start-plain, start-skipped, walk-skipped}
 
 -- the line with its byte 10 is the line and that byte, if the text goes on behind the line
 pub line-closed : (t : List ℕ) → length (until lineEnd t) < length t → lineLength t ≡ suc (length (until lineEnd t))

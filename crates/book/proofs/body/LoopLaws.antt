@@ -13,11 +13,11 @@ use Rattle.book.specs.Formula.{variableOf, maxLiterals, maxBook, maxClau
 use Rattle.book.specs.Text.{Token, literal, close, invalid}
 use Rattle.book.specs.Reading.{refused, accepted}
 use Rattle.book.specs.Inner.Walk.{walk}
-use Rattle.book.specs.Inner.Steps.{tokensHere, NextWord}
+use Rattle.book.specs.Inner.Cursor.{tokensHere, NextWord}
 use Rattle.book.specs.Inner.Marks.{Marked}
-use Rattle.book.specs.Inner.Bodies.{Written, literalFault}
-use Rattle.book.proofs.MarkLaws.{bounded-fresh, marked-none, marked-test, marked-more}
-use Rattle.book.proofs.BodyLaws.{faultHere, fault-over, walk-invalid, walk-short, walk-close, walk-fault, walk-literal, literal-within, walk-open, walk-few, walk-all, written-none, written-literal, written-close}
+use Rattle.book.specs.Inner.Body.{Written, literalFault}
+use Rattle.book.proofs.marks.Laws.{bounded-fresh, marked-none, marked-test, marked-more}
+use Rattle.book.proofs.body.Laws.{faultHere, fault-over, walk-invalid, walk-short, walk-close, walk-fault, walk-literal, literal-within, walk-open, walk-few, walk-all, written-none, written-literal, written-close}
 
 -- `at`: the place of the next word; `closed` clauses are closed, with `first` literals; `total` literals in all. The rest of the text decides.
 pub record ClausesSoFar (text : List ℕ) (start variables clauses : ℕ) (numbers marks : List ℕ) (at closed first total : ℕ) : Type 0 where

@@ -9,7 +9,7 @@ use Rattle.book.specs.Text.{header, unsigned, decimal}
 use Rattle.book.specs.Reading.{refused}
 use Rattle.book.specs.Inner.Words.{wordsBehind}
 use Rattle.book.specs.Inner.Walk.{walkUnder, walkStart}
-use Rattle.book.specs.Inner.Steps.{lineWords, tokensHere}
+use Rattle.book.specs.Inner.Cursor.{lineWords, tokensHere}
 use Rattle.book.specs.declared.header.Keyword.{Keyword}
 use Rattle.book.specs.declared.header.Keyword.the-variants as k
 use Rattle.book.specs.declared.header.Field.{Field}

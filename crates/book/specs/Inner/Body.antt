@@ -6,16 +6,13 @@ use mathlib.Core.List.{List, [], _++_}
 use lib.Dec.{leb, ltb, eqb}
 use lib.ListN.{length, take, drop}
 use Rattle.base.specs.Lists.{flat}
-use Rattle.book.specs.Formula.{Formula, literals, variableOf, maxClause, maxLiterals, maxBook, maxClauses}
-use Rattle.book.specs.Numbers.{starts, numbersOf}
-use Rattle.book.specs.Text.{linesOf}
+use Rattle.book.specs.Formula.{variableOf, maxClause, maxLiterals, maxBook}
+use Rattle.book.specs.Numbers.{starts}
 use Rattle.book.specs.Reading.{refused, accepted}
-use Rattle.book.specs.Inner.Walk.{walk, walkLines}
-use Rattle.book.specs.Inner.Steps.{tokensHere}
+use Rattle.book.specs.Inner.Walk.{walk}
+use Rattle.book.specs.Inner.Cursor.{tokensHere}
 use Rattle.book.specs.declared.body.Body.{Body}
 use Rattle.book.specs.declared.body.Body.the-variants as b
-use Rattle.book.specs.declared.parse.Parsed.{Parsed}
-use Rattle.book.specs.declared.parse.Parsed.the-variants as p
 
 -- the numbers hold the starts of the closed clauses and of the open one, and the literals of both
 pub record Written (numbers : List ℕ) (clauses : ℕ) (done : List (List ℕ)) (current : List ℕ) : Type 0 where
@@ -40,19 +37,3 @@ BodySays text at variables clauses numbers (b.Read total) =
     × (length (flat done) ≡ total)
     × (total ≤ maxLiterals)
     × Written numbers clauses done []
-
--- the formula of the whole text and its numbers, or the first fault
-pub record Read (text numbers : List ℕ) (variables clauses total : ℕ) : Type 0 where
-  pub formula : Formula
-  pub is-accepted : walkLines (linesOf text) ≡ accepted formula
-  pub same-variables : formula .variables ≡ variables
-  pub same-clauses : length (formula .clauses) ≡ clauses
-  pub same-literals : length (literals formula) ≡ total
-  pub few-clauses : clauses ≤ maxClauses
-  pub few-literals : total ≤ maxLiterals
-  pub long : length numbers ≡ maxBook
-  pub front : take (clauses + total + 4) numbers ≡ numbersOf formula
-
-abbrev pub ParsedSays : List ℕ → List ℕ → Parsed → Type 0
-ParsedSays text numbers (p.Refused number) = walkLines (linesOf text) ≡ refused number
-ParsedSays text numbers (p.Book variables clauses total) = Read text numbers variables clauses total

@@ -1,0 +1,3 @@
+-- The laws of src/body.rt.
+pub mod Laws
+pub mod LoopLaws

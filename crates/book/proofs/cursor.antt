@@ -1,0 +1,2 @@
+-- The laws of src/cursor.rt.
+pub mod Laws

@@ -1,0 +1,3 @@
+-- The laws of src/form.rt.
+pub mod ClauseLaws
+pub mod Laws

@@ -1,0 +1,2 @@
+-- The laws of src/header.rt.
+pub mod Laws

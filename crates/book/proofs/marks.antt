@@ -1,0 +1,2 @@
+-- The laws of src/marks.rt.
+pub mod Laws

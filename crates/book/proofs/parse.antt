@@ -1,0 +1,2 @@
+-- The laws of src/parse.rt.
+pub mod Laws

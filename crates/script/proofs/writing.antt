@@ -1,0 +1,3 @@
+-- The laws of src/writing.rt.
+pub mod DigitLaws
+pub mod Laws
