@@ -2,7 +2,7 @@
 use Prim.Native.Nat.{ℕ, _+_, _*_, _-_, _/_, _%_, _≤_, _<_}
 use native.Mathlib.Omega.{arith}
 use mathlib.Core.Bool.{true, Bool, false, cond}
-use mathlib.Core.List.{List, [], _∷_}
+use mathlib.Core.List.{List, [], _∷_, _++_}
 use mathlib.Core.Logic.{_⊎_, inl, inr, ⊎-elim}
 use mathlib.Core.Path.{_≡_, refl, sym, ap, _∙_}
 use borrow.Author.Tests.{eq-eqb, ne-eqb, le-leb}
@@ -19,7 +19,7 @@ use Rattle.run.proofs.Clauses.{literal-within, clause-exists}
 use Rattle.run.specs.Progress.{firstLiteral, secondLiteral, among, Watched}
 use Rattle.run.proofs.WatchLists.{literals-differ, listed-size, Order, forth, back, Sides, listed-sides, listed-once}
 use Rattle.layout.specs.Layout.{watchLiteral, nodeOf, firstNode, behind, linkNumber, linkSlot, clauseOfNode}
-use Rattle.layout.specs.Encodes.{Chain, nodesOf}
+use Rattle.layout.specs.Encodes.{Chain, nodesOf, endSlot}
 
 -- the node of a clause in a list: of its first watch or of its second
 abbrev pub NodeCase : Formula → List Cell → ℕ → ℕ → Type 0
@@ -37,6 +37,11 @@ node-cases formula cells l c =
 
 pub node-positive : (formula : Formula) (cells : List Cell) (l c : ℕ) → 1 ≤ nodeOf formula cells l c
 node-positive formula cells l c = ⊎-elim (λ p. omega arith) (λ p. omega arith) (node-cases formula cells l c)
+
+-- the slot behind one node more is that node's link
+pub end-slot-more : (v c slot : ℕ) (nodes : List ℕ) (node : ℕ) → endSlot v c slot (nodes ++ (node ∷ [])) ≡ linkSlot v c node
+end-slot-more v c slot [] node = refl
+end-slot-more v c slot (m ∷ nodes) node = end-slot-more v c (linkSlot v c m) nodes node
 
 pub node-clause : (formula : Formula) (cells : List Cell) (l c : ℕ) → clauseOfNode (nodeOf formula cells l c) ≡ c
 node-clause formula cells l c = ⊎-elim (λ p. omega arith) (λ p. omega arith) (node-cases formula cells l c)

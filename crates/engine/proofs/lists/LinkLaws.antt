@@ -43,10 +43,6 @@ module _ (v C : ℕ) where
       go (inl e) = inr (d, omega (arith, times-same d passed), e)
       go (inr k) = inr (k .0, omega (arith, k .1, times-more (k .0) d passed), k .2)
 
-  pub end-slot-more : (f : ℕ → ℕ) (slot : ℕ) (passed : List ℕ) (c : ℕ) → endSlot v C slot (map f (passed ++ (c ∷ []))) ≡ linkSlot v C (f c)
-  end-slot-more f slot [] c = refl
-  end-slot-more f slot (d ∷ passed) c = end-slot-more f (linkSlot v C (f d)) passed c
-
   -- the clause behind `passed` is taken out
   pub chain-without : (s t : List ℕ) (f : ℕ → ℕ) → Nodes f → (slot : ℕ) (passed : List ℕ) (c : ℕ) (rest : List ℕ)
       → getD t (endSlot v C slot (map f passed)) 0 ≡ getD s (linkSlot v C (f c)) 0

@@ -1,7 +1,7 @@
 -- A walk along a list: where it begins, how it goes on, what is left of it.
 use Prim.Native.Nat.{ℕ, _+_, _*_, _-_, _≤_, _<_}
 use native.Mathlib.Omega.{arith}
-use mathlib.Core.List.{List, [], _∷_, _++_}
+use mathlib.Core.List.{List, [], _∷_, _++_, map-append}
 use mathlib.Core.Logic.{_⊎_, inl, inr}
 use mathlib.Core.Path.{_≡_, refl, sym, ap, _∙_}
 use lib.ListN.{length, getD}
@@ -14,11 +14,11 @@ use Rattle.run.specs.Scan.{Cell}
 use Rattle.run.specs.Run.{listOf}
 use Rattle.layout.specs.Layout.{requiredLength, nodeOf, firstNode, headSlot, linkSlot}
 use Rattle.layout.specs.Encodes.{Chain, nodesOf, endSlot}
-use Rattle.layout.proofs.ChainLaws.{node-between, node-positive, chain-head}
+use Rattle.layout.proofs.ChainLaws.{node-between, node-positive, end-slot-more, chain-head}
 use Rattle.layout.proofs.HeldLaws.{chain-held}
 use Rattle.engine.specs.Inner.Lists.{listsAt, Lists, Walking, Standing, leftOf}
 use Rattle.engine.specs.declared.lists.Walk.{Walk}
-use Rattle.engine.proofs.lists.LinkLaws.{chain-rest, end-slot-is, end-slot-more}
+use Rattle.engine.proofs.lists.LinkLaws.{chain-rest, end-slot-is}
 use Rattle.engine.proofs.lists.FrameLaws.{orderly-within}
 
 -- where a slot behind some clauses of a list lies
@@ -119,7 +119,10 @@ module _ {formula : Formula} {cells : List Cell} {lists : List (List ℕ)} where
           node-is =
               node-is ∙ ap (λ (x : ℕ). getD numbers x 0) here
               ∙ chain-head formula cells q (formula .variables) (length (formula .clauses)) numbers (linkSlot (formula .variables) (length (formula .clauses)) (nodeOf formula cells q c)) unread (walking-chain w .1);
-          slot-is = slot-is ∙ here ∙ sym (end-slot-more (formula .variables) (length (formula .clauses)) (nodeOf formula cells q) (headSlot (formula .variables) (length (formula .clauses)) q) passed c);
+          slot-is =
+              slot-is ∙ here
+              ∙ sym (rw (map-append (nodeOf formula cells q) passed (c ∷ []))
+              (end-slot-more (formula .variables) (length (formula .clauses)) (headSlot (formula .variables) (length (formula .clauses)) q) (nodesOf formula cells q passed) (nodeOf formula cells q c)));
         }
 
     -- how many clauses are left

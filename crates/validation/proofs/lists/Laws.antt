@@ -21,6 +21,7 @@ use Rattle.layout.specs.Layout.{watchesAt, watchLiteral, held, headSlot, linkSl
 use Rattle.layout.specs.Encodes.{Chain, endSlot}
 use Rattle.validation.specs.Inner.Says.{Says}
 use Rattle.validation.specs.Inner.Lists.{ownerIn, Looking, ListGood, Marks, ListMarked, ListSays, Met, AllSays, NodeGood, NodesGood}
+use Rattle.layout.proofs.ChainLaws.{end-slot-more}
 use Rattle.validation.proofs.cells.Laws.{held-cell, size-read}
 use Rattle.validation.proofs.places.Laws.{Room}
 use Rattle.validation.proofs.SaysLaws.{says-true, says-false, says-equal}
@@ -111,10 +112,6 @@ module _ (v c : ℕ) (numbers : List ℕ) where
       → Upto v c numbers slot (nodes ++ (n ∷ []))
   upto-more slot [] n u e = (e, tt)
   upto-more slot (m ∷ nodes) n u e = (u .0, upto-more (linkSlot v c m) nodes n (u .1) e)
-
-  end-more : (slot : ℕ) (nodes : List ℕ) (n : ℕ) → endSlot v c slot (nodes ++ (n ∷ [])) ≡ linkSlot v c n
-  end-more slot [] n = refl
-  end-more slot (m ∷ nodes) n = end-more (linkSlot v c m) nodes n
 
   upto-chain : (slot : ℕ) (nodes : List ℕ) → Upto v c numbers slot nodes → getD numbers (endSlot v c slot nodes) 0 ≡ 0
       → Chain v c numbers slot nodes
@@ -223,7 +220,7 @@ module _ (book numbers before : List ℕ) (l : ℕ) where
             passed = w .passed ++ (node ∷ []);
             upto = upto-more (variablesOf book) (clausesOf book) numbers (headSlot (variablesOf book) (clausesOf book) l) (w .passed) node (w .upto) (w .next);
             next =
-                rw (end-more (variablesOf book) (clausesOf book) numbers (headSlot (variablesOf book) (clausesOf book) l) (w .passed) node, link-is);
+                rw (end-slot-more (variablesOf book) (clausesOf book) (headSlot (variablesOf book) (clausesOf book) l) (w .passed) node, link-is);
             once = λ n. ⊎-elim (λ e. rw e (omega (arith, more-here, none))) (λ e. omega (arith, more-other n e, w .once n)) (alike n node);
             owned =
                 λ n h. ⊎-elim (λ e. rw e (low, high, own)) (λ e. w .owned n (let z = more-other n e in omega arith)) (alike n node);

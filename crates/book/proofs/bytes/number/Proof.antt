@@ -3,7 +3,8 @@ use Prim.Native.Nat.{_-_}
 use native.Mathlib.Omega.{arith}
 use borrow.Author.Needs.{needs}
 use lib.ListN.{length}
-use Rattle.book.proofs.DecimalLaws.{DigitsSoFar, digits-start, digits-step, value-small, digit-low, digit-high, not-a-digit, all-digits, word-too-short, word-too-long}
+use Rattle.book.proofs.DecimalLaws.{word-too-long}
+use Rattle.book.proofs.bytes.Laws.{DigitsSoFar, digits-start, digits-step, value-small, digit-low, digit-high, not-a-digit, all-digits, word-too-short}
 use Rattle.book.proofs.bytes.number.Statement.{statement}
 use Rattle.book.proofs.bytes.number.Tie as tie
 

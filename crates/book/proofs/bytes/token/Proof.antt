@@ -4,7 +4,8 @@ use native.Mathlib.Omega.{arith}
 use lib.ListN.{drop}
 use Rattle.book.specs.Answer.{digitsOf}
 use Rattle.book.specs.declared.bytes.Digits.{Digits}
-use Rattle.book.proofs.DecimalLaws.{digits-behind, value-below, token-signed, token-unsigned, token-empty, not-digits, zero-digits, some-digits}
+use Rattle.book.proofs.DecimalLaws.{digits-behind, value-below}
+use Rattle.book.proofs.bytes.Laws.{token-signed, token-unsigned, token-empty, not-digits, zero-digits, some-digits}
 use borrow.Author.Needs.{needs}
 use Rattle.book.proofs.bytes.token.Statement.{statement}
 use Rattle.book.proofs.bytes.token.Tie as tie

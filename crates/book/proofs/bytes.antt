@@ -1,0 +1,2 @@
+-- The laws of src/bytes.rt.
+pub mod Laws
