@@ -10,16 +10,23 @@ use Rattle.book.proofs.read.Statement.{statement}
 use Rattle.book.proofs.read.Tie as tie
 
 -- the book that was read
-parsed : (c : tie.After-parse) {p : Parsed} → c .parse .result ≡ p → ParsedSays (c .before .before .before .before .before .args .text .now) (c .parse .last .1 .0) p
-parsed c e = subst (ParsedSays (c .before .before .before .before .before .args .text .now) (c .parse .last .1 .0)) e (c .parse .ensures)
+parsed : (c : tie.After-parse) {p : Parsed} →
+    let entry = c .before .before .before .before .before in
+    c .parse .result ≡ p → ParsedSays (entry .args .text .now) (c .parse .last .1 .0) p
+parsed c e =
+    let entry = c .before .before .before .before .before in
+    subst (ParsedSays (entry .args .text .now) (c .parse .last .1 .0)) e (c .parse .ensures)
 
-book-read : (c : tie.After-variables)
-    → Read (c .before .before .before .before .before .before .before .args .text .now) (c .before .before .parse .last .1 .0) (c .variables .given .0 .0) (c .variables .given .0 .1 .0)
+book-read : (c : tie.After-variables) →
+    let entry = c .before .before .before .before .before .before .before in
+    Read (entry .args .text .now) (c .before .before .parse .last .1 .0) (c .variables .given .0 .0) (c .variables .given .0 .1 .0)
     (c .variables .given .0 .1 .1 .0)
 book-read c = parsed (c .before .before) (c .variables .given .1)
 
 returns : tie.Need-returns
-returns c = answer-refused _ (c .before .before .before .args .out .now) 1 (too-long (c .before .before .before .args .text .now) (c .if1 .taken))
+returns c =
+    let entry = c .before .before .before in
+    answer-refused _ (entry .args .out .now) 1 (too-long (entry .args .text .now) (c .if1 .taken))
 
 parse-requires : tie.Need-parse-requires
 parse-requires c κs = search needs
@@ -43,16 +50,27 @@ add-length-2 : tie.Need-add-length-2
 add-length-2 c = search needs
 
 returns-2 : tie.Need-returns-2
-returns-2 c = read-short (book-read (c .before .before .before .before)) (c .before .before .before .before .before .before .before .before .if1 .left) (c .before .before .before .before .before .before .before .before .before .before .before .args .out .now) (omega arith)
+returns-2 c =
+    let after-variables = c .before .before .before .before in
+    let else1 = after-variables .before .before .before .before in
+    read-short (book-read after-variables) (else1 .if1 .left) (else1 .before .before .before .args .out .now) (omega arith)
 
 slice-aggregate-copy : tie.Need-slice-aggregate-copy
-slice-aggregate-copy c = sym (book-read (c .before .before .before .before .before) .long)
+slice-aggregate-copy c =
+    let after-variables = c .before .before .before .before .before in
+    sym (book-read after-variables .long)
 
 copy-requires : tie.Need-copy-requires
-copy-requires c κs = (omega (arith, c .before .before .before .before .wide .ensures .0, c .before .before .before .wide2 .ensures .0, book-read (c .before .before .before .before .before .before) .long, book-read (c .before .before .before .before .before .before) .few-clauses, book-read (c .before .before .before .before .before .before) .few-literals), c .before .before .if2 .left)
+copy-requires c κs =
+    let after-wide = c .before .before .before .before in
+    let after-variables = after-wide .before .before in
+    (omega (arith, after-wide .wide .ensures .0, c .before .before .before .wide2 .ensures .0, book-read after-variables .long, book-read after-variables .few-clauses, book-read after-variables .few-literals), c .before .before .if2 .left)
 
 returns-3 : tie.Need-returns-3
-returns-3 c = answer-refused _ (c .before .before .before .before .before .before .before .before .args .out .now) _ (read-walked (c .before .before .before .before .before .before .before .before .args .text .now) _ (c .before .before .before .before .before .if1 .left) (parsed (c .before .before .before) (c .before .number .given .1)))
+returns-3 c =
+    let else1 = c .before .before .before .before .before in
+    let entry = else1 .before .before .before in
+    answer-refused _ (entry .args .out .now) _ (read-walked (entry .args .text .now) _ (else1 .if1 .left) (parsed (c .before .before .before) (c .before .number .given .1)))
 
 same-length : tie.Need-same-length
 same-length c = search needs

@@ -15,7 +15,9 @@ same-length : tie.Need-same-length
 same-length c = search needs
 
 returns : tie.Need-returns
-returns c = (c .back-code .ensures ∙ ap backCode (c .before .before .before .backtrack .ensures .0), c .before .before .before .backtrack .ensures .1)
+returns c =
+    let after-backtrack = c .before .before .before in
+    (c .back-code .ensures ∙ ap backCode (after-backtrack .backtrack .ensures .0), after-backtrack .backtrack .ensures .1)
 
 pub tariff-backtrack-spec : {M : Type 1} → statement M
 tariff-backtrack-spec =

@@ -15,7 +15,9 @@ same-length : tie.Need-same-length
 same-length c = search needs
 
 returns : tie.Need-returns
-returns c = (c .answer-code .ensures ∙ ap answerCode (c .before .before .before .decide .ensures .0), c .before .before .before .decide .ensures .1)
+returns c =
+    let after-decide = c .before .before .before in
+    (c .answer-code .ensures ∙ ap answerCode (after-decide .decide .ensures .0), after-decide .decide .ensures .1)
 
 pub tariff-decide-spec : {M : Type 1} → statement M
 tariff-decide-spec = tie.close (tie.spec decide-requires answer-code-requires same-length returns)

@@ -15,7 +15,9 @@ same-length : tie.Need-same-length
 same-length c = search needs
 
 returns : tie.Need-returns
-returns c = (c .answer-code .ensures ∙ ap answerCode (c .before .before .before .«open» .ensures .0), c .before .before .before .«open» .ensures .1)
+returns c =
+    let after-open = c .before .before .before in
+    (c .answer-code .ensures ∙ ap answerCode (after-open .«open» .ensures .0), after-open .«open» .ensures .1)
 
 pub tariff-open-spec : {M : Type 1} → statement M
 tariff-open-spec = tie.close (tie.spec open-requires answer-code-requires same-length returns)

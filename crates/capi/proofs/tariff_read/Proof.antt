@@ -15,7 +15,9 @@ same-length : tie.Need-same-length
 same-length c = search needs
 
 returns : tie.Need-returns
-returns c = (c .reading-code .ensures ∙ ap readingCode (c .before .before .before .read .ensures .0), c .before .before .before .read .ensures .1)
+returns c =
+    let after-read = c .before .before .before in
+    (c .reading-code .ensures ∙ ap readingCode (after-read .read .ensures .0), after-read .read .ensures .1)
 
 pub tariff-read-spec : {M : Type 1} → statement M
 tariff-read-spec = tie.close (tie.spec read-requires reading-code-requires same-length returns)

@@ -21,13 +21,15 @@ refusal-requires c κs = search needs
 
 returns : tie.Need-returns
 returns c =
+    let entry = c .before .before .before .before .before .before in
     let told = sym (c .before .checks .given .1) ∙ c .before .before .before .total .ensures in
-    (ap sumCode told, ap (λ (t : Sum). sumAfter t (now (c .before .before .before .before .before .before .args .sum))) told)
+    (ap sumCode told, ap (λ (t : Sum). sumAfter t (now (entry .args .sum))) told)
 
 returns-2 : tie.Need-returns-2
 returns-2 c =
-    let told = sym (c .before .before .number .given .1) ∙ c .before .before .before .before .total .ensures in
-    (c .refusal .ensures ∙ ap sumCode told, ap (λ (t : Sum). sumAfter t (now (c .before .before .before .before .before .before .before .args .sum))) told)
+    let after-total = c .before .before .before .before in
+    let told = sym (c .before .before .number .given .1) ∙ after-total .total .ensures in
+    (c .refusal .ensures ∙ ap sumCode told, ap (λ (t : Sum). sumAfter t (now (after-total .before .before .before .args .sum))) told)
 
 pub tariff-total-spec : {M : Type 1} → statement M
 tariff-total-spec =

@@ -15,7 +15,9 @@ same-length : tie.Need-same-length
 same-length c = search needs
 
 returns : tie.Need-returns
-returns c = (c .count-code .ensures ∙ ap countCode (c .before .before .before .trail-from .ensures .0), c .before .before .before .trail-from .ensures .1)
+returns c =
+    let after-trail-from = c .before .before .before in
+    (c .count-code .ensures ∙ ap countCode (after-trail-from .trail-from .ensures .0), after-trail-from .trail-from .ensures .1)
 
 pub tariff-trail-from-spec : {M : Type 1} → statement M
 tariff-trail-from-spec =

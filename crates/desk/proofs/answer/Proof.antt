@@ -58,8 +58,9 @@ session c = start c .args .session .now
 
 returns : tie.Need-returns
 returns c =
-    let here = c .before .before .before .before .before .before in
-    answered-malformed (book here) (session here) (start here .args .line .now) (start here .args .out .now) _ _ (sym (c .before .before .before .before .enum-told .given .1) ∙ c .before .before .before .before .before .before .parse-line .ensures) (c .before .before .write-refused .ensures)
+    let after-enum-told = c .before .before .before .before in
+    let here = after-enum-told .before .before in
+    answered-malformed (book here) (session here) (start here .args .line .now) (start here .args .out .now) _ _ (sym (after-enum-told .enum-told .given .1) ∙ here .parse-line .ensures) (c .before .before .write-refused .ensures)
 
 same-length-2 : tie.Need-same-length-2
 same-length-2 c = search needs
@@ -69,8 +70,9 @@ same-length-3 c = search needs
 
 returns-2 : tie.Need-returns-2
 returns-2 c =
-    let here = c .before .before .before .before .before .before .before .before .before .before .before .before in
-    answered-choice (book here) (session here) (start here .args .line .now) _ (start here .args .out .now) _ _ _ _ (sym (c .before .before .before .before .before .before .before .before .before .before .literal .given .1) ∙ c .before .before .before .before .before .before .before .before .before .before .before .before .parse-line .ensures) (c .before .before .before .before .before .before .before .decide .ensures .0) (c .before .before .before .before .before .before .before .decide .ensures .1) (c .before .before .propagated .ensures)
+    let after-decide = c .before .before .before .before .before .before .before in
+    let here = after-decide .before .before .before .before .before in
+    answered-choice (book here) (session here) (start here .args .line .now) _ (start here .args .out .now) _ _ _ _ (sym (after-decide .before .before .before .literal .given .1) ∙ here .parse-line .ensures) (after-decide .decide .ensures .0) (after-decide .decide .ensures .1) (c .before .before .propagated .ensures)
 
 same-length-4 : tie.Need-same-length-4
 same-length-4 c = search needs
@@ -80,8 +82,10 @@ same-length-5 c = search needs
 
 returns-3 : tie.Need-returns-3
 returns-3 c =
-    let here = c .before .before .before .before .before .before .before .before .before .before .before .before .before in
-    answered-back (book here) (session here) (start here .args .line .now) _ (start here .args .out .now) _ _ _ (sym (c .before .before .before .before .before .before .before .before .before .before .before .k .given .1) ∙ c .before .before .before .before .before .before .before .before .before .before .before .before .before .parse-line .ensures) (sym (c .before .before .before .before .enum-told2 .given .1) ∙ c .before .before .before .before .before .before .before .before .backtrack .ensures .0) (c .before .before .before .before .before .before .before .before .backtrack .ensures .1) (c .before .before .write-back .ensures)
+    let after-enum-told2 = c .before .before .before .before in
+    let after-backtrack = after-enum-told2 .before .before .before .before in
+    let here = after-backtrack .before .before .before .before .before in
+    answered-back (book here) (session here) (start here .args .line .now) _ (start here .args .out .now) _ _ _ (sym (after-backtrack .before .before .before .k .given .1) ∙ here .parse-line .ensures) (sym (after-enum-told2 .enum-told2 .given .1) ∙ after-backtrack .backtrack .ensures .0) (after-backtrack .backtrack .ensures .1) (c .before .before .write-back .ensures)
 
 same-length-6 : tie.Need-same-length-6
 same-length-6 c = search needs
@@ -91,8 +95,10 @@ same-length-7 c = search needs
 
 returns-4 : tie.Need-returns-4
 returns-4 c =
-    let here = c .before .before .before .before .before .before .before .before .before .before .before .before .before .before in
-    answered-refusal (book here) (session here) (start here .args .line .now) _ (start here .args .out .now) _ _ _ _ (sym (c .before .before .before .before .before .before .before .before .before .before .before .before .k .given .1) ∙ c .before .before .before .before .before .before .before .before .before .before .before .before .before .before .parse-line .ensures) (sym (c .before .before .before .before .before .refusal .given .1) ∙ c .before .before .before .before .before .before .before .before .before .backtrack .ensures .0) (c .before .before .before .before .before .before .before .before .before .backtrack .ensures .1) (c .before .before .write-refused2 .ensures)
+    let after-refusal = c .before .before .before .before .before in
+    let after-backtrack = after-refusal .before .before .before .before in
+    let here = after-backtrack .before .before .before .before .before in
+    answered-refusal (book here) (session here) (start here .args .line .now) _ (start here .args .out .now) _ _ _ _ (sym (after-backtrack .before .before .before .k .given .1) ∙ here .parse-line .ensures) (sym (after-refusal .refusal .given .1) ∙ after-backtrack .backtrack .ensures .0) (after-backtrack .backtrack .ensures .1) (c .before .before .write-refused2 .ensures)
 
 pub answer-spec : {M : Type 1} → statement M
 answer-spec =

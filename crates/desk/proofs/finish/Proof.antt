@@ -43,24 +43,28 @@ start c = c .before .before .before .before
 
 returns : tie.Need-returns
 returns c =
-    let here = c .before .before .before .before .before .before .before in
-    λ run buffer h. let z : _≡_ {A = ℕ} 0 1 = cc (sym (c .before .before .before .before .before .refusal .given .1) ∙ c .before .before .before .before .before .before .before .total .ensures ∙ run-total (start here .args .book .now) (start here .args .session .now) run buffer h) in absurd (omega arith)
+    let after-refusal = c .before .before .before .before .before in
+    let here = after-refusal .before .before in
+    λ run buffer h. let z : _≡_ {A = ℕ} 0 1 = cc (sym (after-refusal .refusal .given .1) ∙ here .total .ensures ∙ run-total (start here .args .book .now) (start here .args .session .now) run buffer h) in absurd (omega arith)
 
 same-length-2 : tie.Need-same-length-2
 same-length-2 c = search needs
 
 returns-2 : tie.Need-returns-2
 returns-2 c =
-    let here = c .before .before .before .before .before .before .before .before .before .before .before in
-    λ run buffer h. let z : _≡_ {A = ℕ} 0 1 = cc (sym (c .before .before .before .before .before .refusal2 .given .1) ∙ c .before .before .before .before .before .before .before .figures .ensures ∙ run-figures (start here .args .book .now) (start here .args .session .now) run buffer h) in absurd (omega arith)
+    let after-refusal2 = c .before .before .before .before .before in
+    let here = after-refusal2 .before .before .before .before .before .before in
+    λ run buffer h. let z : _≡_ {A = ℕ} 0 1 = cc (sym (after-refusal2 .refusal2 .given .1) ∙ after-refusal2 .before .before .figures .ensures ∙ run-figures (start here .args .book .now) (start here .args .session .now) run buffer h) in absurd (omega arith)
 
 same-length-3 : tie.Need-same-length-3
 same-length-3 c = search needs
 
 returns-3 : tie.Need-returns-3
 returns-3 c =
-    let here = c .before .before .before .before .before .before .before .before .before .before .before in
-    λ run buffer h. end-prints (start here .args .book .now) (start here .args .session .now) run buffer h _ _ _ _ _ (start here .args .out .now) _ _ (sym (c .before .before .before .before .before .decisions .given .1) ∙ c .before .before .before .before .before .before .before .figures .ensures) (sym (c .before .before .before .before .before .before .before .before .before .checks .given .1) ∙ c .before .before .before .before .before .before .before .before .before .before .before .total .ensures) (c .before .before .write-end .ensures)
+    let after-decisions = c .before .before .before .before .before in
+    let after-checks = after-decisions .before .before .before .before in
+    let here = after-checks .before .before in
+    λ run buffer h. end-prints (start here .args .book .now) (start here .args .session .now) run buffer h _ _ _ _ _ (start here .args .out .now) _ _ (sym (after-decisions .decisions .given .1) ∙ after-decisions .before .before .figures .ensures) (sym (after-checks .checks .given .1) ∙ here .total .ensures) (c .before .before .write-end .ensures)
 
 pub finish-spec : {M : Type 1} → statement M
 finish-spec =

@@ -15,7 +15,9 @@ array-share-prefix-text : tie.Need-array-share-prefix-text
 array-share-prefix-text c = search needs
 
 slice-aggregate-read : tie.Need-slice-aggregate-read
-slice-aggregate-read c = sym (length-take-le (c .before .before .before .read-text .result) (c .before .before .before .read-text .last .0) (search needs))
+slice-aggregate-read c =
+    let after-read-text = c .before .before .before in
+    sym (length-take-le (after-read-text .read-text .result) (after-read-text .read-text .last .0) (search needs))
 
 slice-aggregate-read-2 : tie.Need-slice-aggregate-read-2
 slice-aggregate-read-2 c = search needs

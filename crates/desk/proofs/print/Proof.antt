@@ -6,7 +6,9 @@ use Rattle.desk.proofs.print.Statement.{statement}
 use Rattle.desk.proofs.print.Tie as tie
 
 slice-aggregate-write-all : tie.Need-slice-aggregate-write-all
-slice-aggregate-write-all c = sym (length-take-le (c .before .before .before .args .n) (c .before .before .before .args .bytes .now) (c .before .if1 .taken))
+slice-aggregate-write-all c =
+    let entry = c .before .before .before in
+    sym (length-take-le (entry .args .n) (entry .args .bytes .now) (c .before .if1 .taken))
 
 write-all-requires : tie.Need-write-all-requires
 write-all-requires c κs = search needs

@@ -31,24 +31,27 @@ start c = c .before .before .before
 
 returns : tie.Need-returns
 returns c =
-    let here = c .before .before .before .before .before .before .before in
-    propagated-by-implied (start here .args .book .now) (start here .args .session .now) (start here .args .cause) (start here .args .answer) (start here .args .out .now) _ _ _ (c .before .before .before .before .before .answer .given .1) (c .before .before .show-implied .ensures)
+    let after-answer = c .before .before .before .before .before in
+    let here = after-answer .before .before in
+    propagated-by-implied (start here .args .book .now) (start here .args .session .now) (start here .args .cause) (start here .args .answer) (start here .args .out .now) _ _ _ (after-answer .answer .given .1) (c .before .before .show-implied .ensures)
 
 same-length-2 : tie.Need-same-length-2
 same-length-2 c = search needs
 
 returns-2 : tie.Need-returns-2
 returns-2 c =
-    let here = c .before .before .before .before .before .before .before in
-    propagated-by-conflict (start here .args .book .now) (start here .args .session .now) (start here .args .cause) (start here .args .answer) (start here .args .out .now) _ _ _ (c .before .before .before .before .before .answer2 .given .1) (c .before .before .write-clause .ensures)
+    let after-answer2 = c .before .before .before .before .before in
+    let here = after-answer2 .before .before in
+    propagated-by-conflict (start here .args .book .now) (start here .args .session .now) (start here .args .cause) (start here .args .answer) (start here .args .out .now) _ _ _ (after-answer2 .answer2 .given .1) (c .before .before .write-clause .ensures)
 
 same-length-3 : tie.Need-same-length-3
 same-length-3 c = search needs
 
 returns-3 : tie.Need-returns-3
 returns-3 c =
-    let here = c .before .before .before .before .before .before .before in
-    propagated-by-refusal (start here .args .book .now) (start here .args .session .now) (start here .args .cause) (start here .args .answer) (start here .args .out .now) _ _ _ (c .before .before .before .before .before .answer3 .given .1) (c .before .before .write-refused .ensures)
+    let after-answer3 = c .before .before .before .before .before in
+    let here = after-answer3 .before .before in
+    propagated-by-refusal (start here .args .book .now) (start here .args .session .now) (start here .args .cause) (start here .args .answer) (start here .args .out .now) _ _ _ (after-answer3 .answer3 .given .1) (c .before .before .write-refused .ensures)
 
 pub propagated-spec : {M : Type 1} → statement M
 propagated-spec =

@@ -33,16 +33,18 @@ session c = start c .args .session .now
 
 returns : tie.Need-returns
 returns c =
-    let here = c .before .before .before .before in
+    let after-trail = c .before .before in
+    let here = after-trail .before .before in
     λ run buffer h few.
-    let trail : c .before .before .trail .given .0 .0 ≡ length (run .trail) = cc (sym (c .before .before .trail .given .1) ∙ c .before .before .before .before .before .trail-from .ensures .0 ∙ run-count (book here) (session here) run buffer h) in
+    let trail : after-trail .trail .given .0 .0 ≡ length (run .trail) = cc (sym (after-trail .trail .given .1) ∙ here .before .trail-from .ensures .0 ∙ run-count (book here) (session here) run buffer h) in
     absurd (omega (arith, c .if1 .taken))
 
 returns-2 : tie.Need-returns-2
 returns-2 c =
-    let here = c .before .before .before .before .before in
+    let after-trail = c .before .before .before in
+    let here = after-trail .before .before in
     λ run buffer h few.
-    let trail : c .before .before .before .trail .given .0 .0 ≡ length (run .trail) = cc (sym (c .before .before .before .trail .given .1) ∙ c .before .before .before .before .before .before .trail-from .ensures .0 ∙ run-count (book here) (session here) run buffer h) in
+    let trail : after-trail .trail .given .0 .0 ≡ length (run .trail) = cc (sym (after-trail .trail .given .1) ∙ here .before .trail-from .ensures .0 ∙ run-count (book here) (session here) run buffer h) in
     absurd (omega (arith, c .if2 .taken, trail-few (book here) (session here) run buffer h))
 
 wide-requires : tie.Need-wide-requires
@@ -70,18 +72,20 @@ returns-3 : tie.Need-returns-3
 returns-3 c =
     let here = c .before .before in
     λ run buffer h few.
-    let z : _≡_ {A = ℕ} 0 1 = cc (sym (c .enum-told .given .1) ∙ c .before .before .before .trail-from .ensures .0 ∙ run-count (book here) (session here) run buffer h) in absurd (omega arith)
+    let z : _≡_ {A = ℕ} 0 1 = cc (sym (c .enum-told .given .1) ∙ here .before .trail-from .ensures .0 ∙ run-count (book here) (session here) run buffer h) in absurd (omega arith)
 
 same-length : tie.Need-same-length
 same-length c = search needs
 
 returns-4 : tie.Need-returns-4
 returns-4 c =
-    let here = c .before .before .before .before .before .before .before .before .before .before .before .before .before in
+    let after-wide2 = c .before .before .before .before .before .before in
+    let after-trail = after-wide2 .before .before .before .before .before in
+    let here = after-trail .before .before in
     λ run buffer h few.
-    let trail : c .before .before .before .before .before .before .before .before .before .before .before .trail .given .0 .0 ≡ length (run .trail) = cc (sym (c .before .before .before .before .before .before .before .before .before .before .before .trail .given .1) ∙ c .before .before .before .before .before .before .before .before .before .before .before .before .before .before .trail-from .ensures .0 ∙ run-count (book here) (session here) run buffer h) in
-    implied-prints (book here) (session here) run buffer h (start here .args .cause) (start here .args .implied) (c .before .before .before .before .before .before .before .wide .result) (c .before .before .before .before .before .before .wide2 .result) _ _ (start here .args .out .now) _ _
-    (omega (arith, c .before .before .before .before .before .before .wide2 .ensures)) (omega (arith, c .before .before .before .before .before .before .before .wide .ensures)) few (omega (arith, c .before .before .before .before .before .before .before .before .if2 .left)) (c .before .before .before .before .before .before .before .before .before .before .before .before .before .before .trail-from .ensures .1) (c .before .before .write-implied .ensures)
+    let trail : after-trail .trail .given .0 .0 ≡ length (run .trail) = cc (sym (after-trail .trail .given .1) ∙ here .before .trail-from .ensures .0 ∙ run-count (book here) (session here) run buffer h) in
+    implied-prints (book here) (session here) run buffer h (start here .args .cause) (start here .args .implied) (after-wide2 .before .wide .result) (after-wide2 .wide2 .result) _ _ (start here .args .out .now) _ _
+    (omega (arith, after-wide2 .wide2 .ensures)) (omega (arith, after-wide2 .before .wide .ensures)) few (omega (arith, after-wide2 .before .before .if2 .left)) (here .before .trail-from .ensures .1) (c .before .before .write-implied .ensures)
 
 pub show-implied-spec : {M : Type 1} → statement M
 show-implied-spec =

@@ -47,8 +47,10 @@ same-length-2 c = search needs
 
 returns : tie.Need-returns
 returns c =
-    let here = c .before .before .before .before .before .before .before .before .before .before .before in
-    takes-end (book here) (session here) (start here .args .line .now) (start here .args .kept) (start here .args .byte) _ _ _ _ (c .before .before .before .before .before .before .before .before .before .before .if1 .taken) (c .before .before .before .before .before .answer .ensures)
+    let after-answer = c .before .before .before .before .before in
+    let then1 = after-answer .before .before .before .before .before in
+    let here = then1 .before in
+    takes-end (book here) (session here) (start here .args .line .now) (start here .args .kept) (start here .args .byte) _ _ _ _ (then1 .if1 .taken) (after-answer .answer .ensures)
 
 returns-2 : tie.Need-returns-2
 returns-2 c =

@@ -38,11 +38,13 @@ loop-less c = search needs
 
 loop-again : tie.Need-loop-again Inv-loop μ-loop
 loop-again c =
-    let here = c .before .before .before .before .before .before .before .before .before .before in (
+    let after-take-byte = c .before .before .before .before in
+    let at-loop = after-take-byte .before .before .before .before .before in
+    let here = at-loop .before in (
       search needs,
       search needs,
       search needs,
-      takes-more (start here .args .book .now) (start here .args .session .now) (start here .args .line .now) (start here .args .kept) (start here .args .bytes .now) (c .before .before .before .before .before .before .before .before .before .loop .i) _ _ _ _ _ _ (omega arith) (c .before .before .before .before .before .before .before .before .before .loop .inv .3) (c .before .before .before .before .take-byte .ensures),
+      takes-more (start here .args .book .now) (start here .args .session .now) (start here .args .line .now) (start here .args .kept) (start here .args .bytes .now) (at-loop .loop .i) _ _ _ _ _ _ (omega arith) (at-loop .loop .inv .3) (after-take-byte .take-byte .ensures),
     )
 
 same-length : tie.Need-same-length Inv-loop μ-loop

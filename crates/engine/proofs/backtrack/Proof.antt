@@ -19,11 +19,10 @@ abbrev start : (c : tie.After-variables) → tie.Start
 start c = c .before .before .before .before
 
 cut-levels-requires : tie.Need-cut-levels-requires
-cut-levels-requires c κs =
-    (
-      session-trail-fits _ (c .variables .ensures) (held-fits (start c .pre .0 .well) (start c .pre .0 .encodes)),
-      (start c .pre .0 .run .trail, backtrack-cutting (start c .pre .0) (start c .args .k) (start c .pre .1) (c .variables .result) (c .variables .ensures)),
-    )
+cut-levels-requires c κs = (
+  session-trail-fits _ (c .variables .ensures) (held-fits (start c .pre .0 .well) (start c .pre .0 .encodes)),
+  (start c .pre .0 .run .trail, backtrack-cutting (start c .pre .0) (start c .args .k) (start c .pre .1) (c .variables .result) (c .variables .ensures)),
+)
 
 -- the numbers are as many as before
 long : (c : tie.After-cut-levels) → 4 ≤ length (c .cut-levels .last .0)
@@ -39,11 +38,12 @@ slice-read-session c =
 
 add-session : tie.Need-add-session
 add-session c =
-    let here = c .before .before .before .before in
+    let after-cut-levels = c .before .before .before in
+    let here = after-cut-levels .before in
     omega (
       arith,
-      getD-set-other (c .before .before .before .cut-levels .last .0) conflictAt backtracksAt 0 0 (λ z. omega arith),
-      c .before .before .before .cut-levels .ensures .1 .backtracks,
+      getD-set-other (after-cut-levels .cut-levels .last .0) conflictAt backtracksAt 0 0 (λ z. omega arith),
+      after-cut-levels .cut-levels .ensures .1 .backtracks,
       few-backtracks (start here .pre .0) (start here .args .k) (start here .pre .1),
     )
 
@@ -57,10 +57,11 @@ same-length c =
 
 returns : tie.Need-returns
 returns c =
-    let here = c .before .before .before .before in
+    let after-cut-levels = c .before .before .before in
+    let here = after-cut-levels .before in
     λ at accepted.
-    backtrack-done at (start here .args .k) accepted (c .before .before .before .before .variables .result) (c .before .before .before .cut-levels .last .0) (c .before .before .before .before .variables .ensures) (c .before .before .before .cut-levels .ensures .1)
-    (c .before .before .before .cut-levels .ensures .0 (at .run .trail) (backtrack-cutting at (start here .args .k) accepted (c .before .before .before .before .variables .result) (c .before .before .before .before .variables .ensures)))
+    backtrack-done at (start here .args .k) accepted (here .variables .result) (after-cut-levels .cut-levels .last .0) (here .variables .ensures) (after-cut-levels .cut-levels .ensures .1)
+    (after-cut-levels .cut-levels .ensures .0 (at .run .trail) (backtrack-cutting at (start here .args .k) accepted (here .variables .result) (here .variables .ensures)))
 
 pub backtrack-spec : {M : Type 1} → statement M
 backtrack-spec = tie.close (tie.spec variables-requires cut-levels-requires slice-write-session slice-read-session add-session slice-write-session-2 same-length returns)

@@ -57,7 +57,7 @@ assign-requires : tie.Need-assign-requires
 assign-requires c κs =
     let here = c .before .before .before in
     let ready = decision-ready (start here .pre .0) (start here .args .literal) (start here .pre .1) in
-    let same = c .before .before .before .before .variables .ensures in
+    let same = here .before .variables .ensures in
     let kept = getD-set-other (session here) decisionsAt lengthAt (getD (session here) decisionsAt 0 + 1) 0 (λ z. omega arith) in (
       fits-trail (fits-kept (length-set (session here) decisionsAt (getD (session here) decisionsAt 0 + 1)) (session-fits _ (clausesOf (book here)) same refl (held-fits (start here .pre .0 .well) (start here .pre .0 .encodes)))),
       omega arith,
@@ -66,23 +66,30 @@ assign-requires c κs =
     )
 
 -- propagation goes on from the literal
-abbrev begun : (c : tie.After-assign) (at : Holding (book (c .before .before .before .before)) (session (c .before .before .before .before))) → decideRefusal (formulaOf (book (c .before .before .before .before))) (start (c .before .before .before .before) .args .literal) (at .run) ≡ 0
-    → Propagating (book (c .before .before .before .before)) (c .assign .last .0) (c .before .before .before .wide .result)
-begun c at accepted =
+abbrev begun : (c : tie.After-assign) →
     let here = c .before .before .before .before in
-    decision-begun at (start here .args .literal) accepted (c .before .before .before .before .before .variables .result) (c .before .before .before .wide .result) (getD (session here) decisionsAt 0 + 1) (c .assign .last .0) (c .before .before .before .before .before .variables .ensures) (c .before .before .before .wide .ensures) refl (c .assign .ensures)
+    (at : Holding (book here) (session here)) → decideRefusal (formulaOf (book here)) (start here .args .literal) (at .run) ≡ 0
+    → Propagating (book here) (c .assign .last .0) (c .before .before .before .wide .result)
+begun c at accepted =
+    let after-wide = c .before .before .before in
+    let here = after-wide .before in
+    decision-begun at (start here .args .literal) accepted (here .before .variables .result) (after-wide .wide .result) (getD (session here) decisionsAt 0 + 1) (c .assign .last .0) (here .before .variables .ensures) (after-wide .wide .ensures) refl (c .assign .ensures)
 
 propagate-requires : tie.Need-propagate-requires
 propagate-requires c κs =
     let here = c .before .before .before .before .before .before .before in
     begun (c .before .before .before) (start here .pre .0) (start here .pre .1)
 
-done : (c : tie.After-propagate) (at : Holding (book (c .before .before .before .before .before .before .before .before)) (session (c .before .before .before .before .before .before .before .before))) → decideRefusal (formulaOf (book (c .before .before .before .before .before .before .before .before))) (start (c .before .before .before .before .before .before .before .before) .args .literal) (at .run) ≡ 0
-    → Becomes (book (c .before .before .before .before .before .before .before .before)) (session (c .before .before .before .before .before .before .before .before)) (c .propagate .last .1 .0) (decide (formulaOf (book (c .before .before .before .before .before .before .before .before))) (start (c .before .before .before .before .before .before .before .before) .args .literal) (at .run))
-done c at accepted =
+done : (c : tie.After-propagate) →
     let here = c .before .before .before .before .before .before .before .before in
-    decision-done at (start here .args .literal) accepted (c .before .before .before .before .before .before .before .before .before .variables .result) (c .before .before .before .before .before .before .before .wide .result) (getD (session here) decisionsAt 0 + 1) (c .before .before .before .before .assign .last .0) (c .before .before .before .before .before .before .before .before .before .variables .ensures) (c .before .before .before .before .before .before .before .wide .ensures) refl (c .before .before .before .before .assign .ensures)
-    (c .propagate .ensures (begun (c .before .before .before .before) at accepted))
+    (at : Holding (book here) (session here)) → decideRefusal (formulaOf (book here)) (start here .args .literal) (at .run) ≡ 0
+    → Becomes (book here) (session here) (c .propagate .last .1 .0) (decide (formulaOf (book here)) (start here .args .literal) (at .run))
+done c at accepted =
+    let after-assign = c .before .before .before .before in
+    let after-wide = after-assign .before .before .before in
+    let here = after-wide .before in
+    decision-done at (start here .args .literal) accepted (here .before .variables .result) (after-wide .wide .result) (getD (session here) decisionsAt 0 + 1) (after-assign .assign .last .0) (here .before .variables .ensures) (after-wide .wide .ensures) refl (after-assign .assign .ensures)
+    (c .propagate .ensures (begun after-assign at accepted))
 
 same-length : tie.Need-same-length
 same-length c =

@@ -22,7 +22,8 @@ clauses-requires c κs = search needs
 
 required-length-requires : tie.Need-required-length-requires
 required-length-requires c κs =
-    let fits = session-fits _ _ (c .before .variables .ensures) (c .clauses .ensures) (c .before .before .before .before .before .pre) in
+    let entry = c .before .before .before .before .before in
+    let fits = session-fits _ _ (c .before .variables .ensures) (c .clauses .ensures) (entry .pre) in
     (fits .few-variables, fits .few-clauses)
 
 -- the entry and the book
@@ -49,24 +50,34 @@ watch-all-requires c κs =
     )
 
 assign-units-requires : tie.Need-assign-units-requires
-assign-units-requires c κs = (start (c .before .before .before .before .before .before .before .before) .pre .well, c .before .before .before .watch-all .ensures .encodes)
+assign-units-requires c κs =
+    let after-required-length = c .before .before .before .before .before .before .before .before in
+    (start after-required-length .pre .well, c .before .before .before .watch-all .ensures .encodes)
 
 -- propagation begins
-abbrev begun : (c : tie.After-assign-units) → Propagating (book (c .before .before .before .before .before .before .before .before .before)) (c .assign-units .last .1 .0) 0
+abbrev begun : (c : tie.After-assign-units) →
+    let after-required-length = c .before .before .before .before .before .before .before .before .before in
+    Propagating (book after-required-length) (c .assign-units .last .1 .0) 0
 begun c =
-    let counted = c .before .before .before .before .before .before .before .before .before in
-    let clear = c .before .before .before .before .before .before .before .before .clear in
+    let after-clear = c .before .before .before .before .before .before .before .before in
+    let counted = after-clear .before in
+    let clear = after-clear .clear in
     opening-begun (book counted) (start counted .args .session .now) (clear .last .0) _ (start counted .pre .well) (count-is counted) (clear .ensures) (c .assign-units .ensures .encodes)
 
 propagate-requires : tie.Need-propagate-requires
 propagate-requires c κs = begun (c .before .before .before)
 
-done : (c : tie.After-propagate) → Becomes (book (c .before .before .before .before .before .before .before .before .before .before .before .before .before)) (start (c .before .before .before .before .before .before .before .before .before .before .before .before .before) .args .session .now) (c .propagate .last .1 .0) (openRun (formulaOf (book (c .before .before .before .before .before .before .before .before .before .before .before .before .before))))
+done : (c : tie.After-propagate) →
+    let after-required-length = c .before .before .before .before .before .before .before .before .before .before .before .before .before in
+    Becomes (book after-required-length) (start after-required-length .args .session .now) (c .propagate .last .1 .0) (openRun (formulaOf (book after-required-length)))
 done c =
-    let counted = c .before .before .before .before .before .before .before .before .before .before .before .before .before in
-    let clear = c .before .before .before .before .before .before .before .before .before .before .before .before .clear in
+    let after-assign-units = c .before .before .before .before in
+    let after-watch-all = after-assign-units .before .before .before .before in
+    let after-clear = after-watch-all .before .before .before .before in
+    let counted = after-clear .before in
+    let clear = after-clear .clear in
     opening-done (book counted) (start counted .args .session .now) (clear .last .0) _ (start counted .pre .well) (count-is counted) (clear .ensures)
-    (c .before .before .before .before .before .before .before .before .watch-all .ensures) (c .before .before .before .before .assign-units .ensures) (c .propagate .ensures (begun (c .before .before .before .before)))
+    (after-watch-all .watch-all .ensures) (after-assign-units .assign-units .ensures) (c .propagate .ensures (begun after-assign-units))
 
 same-length : tie.Need-same-length
 same-length c = done (c .before .before) .same-length

@@ -11,11 +11,19 @@ use Rattle.script.proofs.parse_line.Statement.{statement}
 use Rattle.script.proofs.parse_line.Tie as tie
 
 -- the answer of `number`, said of the line behind its first bytes
-digits-signed : (c : tie.After-number) {d : Digits} → c .number .result ≡ d → d ≡ digitsOf (drop 1 (c .before .before .before .before .before .before .args .line .now))
-digits-signed c e = digits-behind 1 (c .before .before .before .before .before .before .args .line .now) _ (sym e ∙ c .number .ensures)
+digits-signed : (c : tie.After-number) {d : Digits} →
+    let entry = c .before .before .before .before .before .before in
+    c .number .result ≡ d → d ≡ digitsOf (drop 1 (entry .args .line .now))
+digits-signed c e =
+    let entry = c .before .before .before .before .before .before in
+    digits-behind 1 (entry .args .line .now) _ (sym e ∙ c .number .ensures)
 
-digits-back : (c : tie.After-number2) {d : Digits} → c .number2 .result ≡ d → d ≡ digitsOf (drop 2 (c .before .before .before .before .before .before .before .before .before .before .before .args .line .now))
-digits-back c e = digits-behind 2 (c .before .before .before .before .before .before .before .before .before .before .before .args .line .now) _ (sym e ∙ c .number2 .ensures)
+digits-back : (c : tie.After-number2) {d : Digits} →
+    let entry = c .before .before .before .before .before .before .before .before .before .before .before in
+    c .number2 .result ≡ d → d ≡ digitsOf (drop 2 (entry .args .line .now))
+digits-back c e =
+    let entry = c .before .before .before .before .before .before .before .before .before .before .before in
+    digits-behind 2 (entry .args .line .now) _ (sym e ∙ c .number2 .ensures)
 
 returns : tie.Need-returns
 returns c = sym (line-empty _ (c .if1 .taken))
@@ -52,7 +60,8 @@ shared-slice-read-if3 c = search needs
 
 returns-2 : tie.Need-returns-2
 returns-2 c =
-    let line = c .before .before .before .before .before .before .before .args .line .now in
+    let entry = c .before .before .before .before .before .before .before in
+    let line = entry .args .line .now in
     sym (line-back line (omega arith) (c .before .if3 .taken) ∙ back-malformed line (c .if4 .taken))
 
 shared-slice-read-if5 : tie.Need-shared-slice-read-if5
@@ -60,7 +69,8 @@ shared-slice-read-if5 c = search needs
 
 returns-3 : tie.Need-returns-3
 returns-3 c =
-    let line = c .before .before .before .before .before .before .before .before .before .args .line .now in
+    let entry = c .before .before .before .before .before .before .before .before .before in
+    let line = entry .args .line .now in
     sym (line-back line (omega arith) (c .before .before .before .if3 .taken) ∙ back-unparted line (c .if5 .taken))
 
 sub-number-2 : tie.Need-sub-number-2
@@ -94,26 +104,38 @@ mul-t33 : tie.Need-mul-t33
 mul-t33 c = omega (arith, value-below _ _ (sym (c .before .variable2 .given .1) ∙ c .before .before .before .number3 .ensures))
 
 returns-4 : tie.Need-returns-4
-returns-4 c = sym (line-negative _ (omega arith) (c .before .before .before .before .if2 .taken) ∙ numbered-invalid _ _ (digits-signed (c .before .before) (c .enum-told .given .1)))
+returns-4 c =
+    let then2 = c .before .before .before .before in
+    sym (line-negative _ (omega arith) (then2 .if2 .taken) ∙ numbered-invalid _ _ (digits-signed (c .before .before) (c .enum-told .given .1)))
 
 returns-5 : tie.Need-returns-5
-returns-5 c = sym (line-negative _ (omega arith) (c .before .before .before .before .before .if2 .taken) ∙ numbered-value _ _ _ (digits-signed (c .before .before .before) (c .before .variable .given .1)))
+returns-5 c =
+    let then2 = c .before .before .before .before .before in
+    sym (line-negative _ (omega arith) (then2 .if2 .taken) ∙ numbered-value _ _ _ (digits-signed (c .before .before .before) (c .before .variable .given .1)))
 
 returns-6 : tie.Need-returns-6
 returns-6 c =
-    let line = c .before .before .before .before .before .before .before .before .before .before .before .before .before .args .line .now in
-    sym (line-back line (omega arith) (c .before .before .before .before .before .before .before .if3 .taken) ∙ back-parted line (c .before .before .before .before .if5 .left) ∙ numbered-invalid _ _ (digits-back (c .before .before) (c .enum-told2 .given .1)))
+    let else5 = c .before .before .before .before in
+    let entry = else5 .before .before .before .before .before .before .before .before .before in
+    let line = entry .args .line .now in
+    sym (line-back line (omega arith) (else5 .before .before .before .if3 .taken) ∙ back-parted line (else5 .if5 .left) ∙ numbered-invalid _ _ (digits-back (c .before .before) (c .enum-told2 .given .1)))
 
 returns-7 : tie.Need-returns-7
 returns-7 c =
-    let line = c .before .before .before .before .before .before .before .before .before .before .before .before .before .before .args .line .now in
-    sym (line-back line (omega arith) (c .before .before .before .before .before .before .before .before .if3 .taken) ∙ back-parted line (c .before .before .before .before .before .if5 .left) ∙ numbered-value _ _ _ (digits-back (c .before .before .before) (c .before .k .given .1)))
+    let else5 = c .before .before .before .before .before in
+    let entry = else5 .before .before .before .before .before .before .before .before .before in
+    let line = entry .args .line .now in
+    sym (line-back line (omega arith) (else5 .before .before .before .if3 .taken) ∙ back-parted line (else5 .if5 .left) ∙ numbered-value _ _ _ (digits-back (c .before .before .before) (c .before .k .given .1)))
 
 returns-8 : tie.Need-returns-8
-returns-8 c = sym (line-positive _ (omega arith) (c .before .before .before .before .before .if2 .left) (c .before .before .before .if3 .left) ∙ numbered-invalid _ _ (sym (c .enum-told3 .given .1) ∙ c .before .before .number3 .ensures))
+returns-8 c =
+    let else2 = c .before .before .before .before .before in
+    sym (line-positive _ (omega arith) (else2 .if2 .left) (c .before .before .before .if3 .left) ∙ numbered-invalid _ _ (sym (c .enum-told3 .given .1) ∙ c .before .before .number3 .ensures))
 
 returns-9 : tie.Need-returns-9
-returns-9 c = sym (line-positive _ (omega arith) (c .before .before .before .before .before .before .if2 .left) (c .before .before .before .before .if3 .left) ∙ numbered-value _ _ _ (sym (c .before .variable2 .given .1) ∙ c .before .before .before .number3 .ensures))
+returns-9 c =
+    let else3 = c .before .before .before .before in
+    sym (line-positive _ (omega arith) (else3 .before .before .if2 .left) (else3 .if3 .left) ∙ numbered-value _ _ _ (sym (c .before .variable2 .given .1) ∙ c .before .before .before .number3 .ensures))
 
 pub parse-line-spec : {M : Type 1} → statement M
 parse-line-spec =

@@ -26,7 +26,10 @@ same-length c = search needs
 
 returns : tie.Need-returns
 unfolding bytes backLine
-returns c = line-written (appends-as (ap backLine (c .before .before .before .before .before .before .before .before .wide .ensures)) (appends-both (c .before .before .before .before .before .before .before .before .before .before .before .put-all .ensures) (appends-both (c .before .before .before .before .before .before .put-number .ensures) (c .before .before .put .ensures))))
+returns c =
+    let after-put-number = c .before .before .before .before .before .before in
+    let after-put-all = after-put-number .before .before .before .before .before in
+    line-written (appends-as (ap backLine (after-put-number .before .before .wide .ensures)) (appends-both (after-put-all .put-all .ensures) (appends-both (after-put-number .put-number .ensures) (c .before .before .put .ensures))))
 
 pub write-back-spec : {M : Type 1} → statement M
 write-back-spec =

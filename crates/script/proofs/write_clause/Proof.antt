@@ -29,7 +29,11 @@ same-length c = search needs
 
 returns : tie.Need-returns
 unfolding bytes clauseLine
-returns c = line-written (appends-as (ap (clauseLine (c .before .before .before .before .before .before .before .before .before .before .before .before .before .before .before .before .before .before .before .args .cause)) (c .before .before .before .before .before .before .before .before .wide .ensures)) (appends-both (c .before .before .before .before .before .before .before .before .before .before .before .before .before .before .before .before .put-cause .ensures) (appends-both (c .before .before .before .before .before .before .before .before .before .before .before .put-all .ensures) (appends-both (c .before .before .before .before .before .before .put-number .ensures) (c .before .before .put .ensures)))))
+returns c =
+    let after-put-number = c .before .before .before .before .before .before in
+    let after-put-all = after-put-number .before .before .before .before .before in
+    let after-put-cause = after-put-all .before .before .before .before .before in
+    line-written (appends-as (ap (clauseLine (after-put-cause .before .before .before .args .cause)) (after-put-number .before .before .wide .ensures)) (appends-both (after-put-cause .put-cause .ensures) (appends-both (after-put-all .put-all .ensures) (appends-both (after-put-number .put-number .ensures) (c .before .before .put .ensures)))))
 
 pub write-clause-spec : {M : Type 1} → statement M
 write-clause-spec =

@@ -55,8 +55,9 @@ returns c =
     let backs = taken .before .before .before .before .before in
     let decided = backs .before .before .before .before .before in
     let words = decided .before .before .before .before .before in
+    let entry = words .before .before .before .before in
     line-written (appends-as
-    (ap₂ (λ (d b : ℕ). endLine d b (words .before .before .before .before .args .checks)) (decided .before .before .wide .ensures) (taken .before .before .wide2 .ensures))
+    (ap₂ (λ (d b : ℕ). endLine d b (entry .args .checks)) (decided .before .before .wide .ensures) (taken .before .before .wide2 .ensures))
     (appends-both (words .put-all .ensures)
     (appends-both (decided .put-number .ensures)
     (appends-both (backs .put-all2 .ensures)

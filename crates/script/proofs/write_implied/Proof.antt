@@ -28,7 +28,12 @@ same-length c = search needs
 
 returns : tie.Need-returns
 unfolding bytes impliedLine
-returns c = line-written (appends-both (c .before .before .before .before .before .before .before .before .before .before .before .before .before .before .before .before .before .before .before .put-cause .ensures) (appends-both (c .before .before .before .before .before .before .before .before .before .before .before .before .before .before .put-all .ensures) (appends-both (c .before .before .before .before .before .before .before .before .before .before .put-number .ensures) (appends-both (c .before .before .before .before .before .before .put .ensures) (c .before .before .put-listed .ensures)))))
+returns c =
+    let after-put = c .before .before .before .before .before .before in
+    let after-put-number = after-put .before .before .before .before in
+    let after-put-all = after-put-number .before .before .before .before in
+    let after-put-cause = after-put-all .before .before .before .before .before in
+    line-written (appends-both (after-put-cause .put-cause .ensures) (appends-both (after-put-all .put-all .ensures) (appends-both (after-put-number .put-number .ensures) (appends-both (after-put .put .ensures) (c .before .before .put-listed .ensures)))))
 
 pub write-implied-spec : {M : Type 1} → statement M
 write-implied-spec =

@@ -26,7 +26,10 @@ same-length c = search needs
 
 returns : tie.Need-returns
 unfolding bytes refusedLine
-returns c = line-written (appends-as (ap refusedLine (c .before .before .before .before .before .before .before .before .wide .ensures)) (appends-both (c .before .before .before .before .before .before .before .before .before .before .before .put-all .ensures) (appends-both (c .before .before .before .before .before .before .put-number .ensures) (c .before .before .put .ensures))))
+returns c =
+    let after-put-number = c .before .before .before .before .before .before in
+    let after-put-all = after-put-number .before .before .before .before .before in
+    line-written (appends-as (ap refusedLine (after-put-number .before .before .wide .ensures)) (appends-both (after-put-all .put-all .ensures) (appends-both (after-put-number .put-number .ensures) (c .before .before .put .ensures))))
 
 pub write-refused-spec : {M : Type 1} → statement M
 write-refused-spec =

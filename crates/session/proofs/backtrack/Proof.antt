@@ -29,15 +29,16 @@ returns c = back-refused (book (c .before)) (session (c .before)) (start (c .bef
 backtrack-requires : tie.Need-backtrack-requires
 backtrack-requires c κs =
     let here = c .before .before in
-    (back-holding (book here) (session here) (start here .args .k) (sym (c .before .if1 .left) ∙ c .before .before .backtrack-refusal .ensures), back-own (book here) (session here) (start here .args .k) (sym (c .before .if1 .left) ∙ c .before .before .backtrack-refusal .ensures))
+    (back-holding (book here) (session here) (start here .args .k) (sym (c .before .if1 .left) ∙ here .backtrack-refusal .ensures), back-own (book here) (session here) (start here .args .k) (sym (c .before .if1 .left) ∙ here .backtrack-refusal .ensures))
 
 same-length-2 : tie.Need-same-length-2
 same-length-2 c = search needs
 
 returns-2 : tie.Need-returns-2
 returns-2 c =
-    let here = c .before .before .before .before .before in
-    back-done (book here) (session here) (start here .args .k) (sym (c .before .before .before .before .if1 .left) ∙ c .before .before .before .before .before .backtrack-refusal .ensures) _ (c .before .before .backtrack .ensures (back-holding (book here) (session here) (start here .args .k) (sym (c .before .before .before .before .if1 .left) ∙ c .before .before .before .before .before .backtrack-refusal .ensures)) (back-own (book here) (session here) (start here .args .k) (sym (c .before .before .before .before .if1 .left) ∙ c .before .before .before .before .before .backtrack-refusal .ensures)))
+    let else1 = c .before .before .before .before in
+    let here = else1 .before in
+    back-done (book here) (session here) (start here .args .k) (sym (else1 .if1 .left) ∙ here .backtrack-refusal .ensures) _ (c .before .before .backtrack .ensures (back-holding (book here) (session here) (start here .args .k) (sym (else1 .if1 .left) ∙ here .backtrack-refusal .ensures)) (back-own (book here) (session here) (start here .args .k) (sym (else1 .if1 .left) ∙ here .backtrack-refusal .ensures)))
 
 pub backtrack-spec : {M : Type 1} → statement M
 backtrack-spec =

@@ -47,18 +47,21 @@ returns-3 c =
 
 shared-slice-read-if4 : tie.Need-shared-slice-read-if4
 shared-slice-read-if4 c =
-    let here = c .before .before .before .before .before in
-    omega (arith, long (book here) (session here) (none (c .before .before .before .before)))
+    let else1 = c .before .before .before .before in
+    let here = else1 .before in
+    omega (arith, long (book here) (session here) (none else1))
 
 returns-4 : tie.Need-returns-4
 returns-4 c =
-    let here = c .before .before .before .before .before .before in
-    back-spent (book here) (session here) (none (c .before .before .before .before .before)) _ (c .before .before .before .before .if2 .left) (c .before .before .if3 .left) (c .if4 .taken)
+    let else2 = c .before .before .before .before in
+    let here = else2 .before .before in
+    back-spent (book here) (session here) (none (else2 .before)) _ (else2 .if2 .left) (c .before .before .if3 .left) (c .if4 .taken)
 
 returns-5 : tie.Need-returns-5
 returns-5 c =
-    let here = c .before .before .before .before .before .before in
-    back-accepted (book here) (session here) (none (c .before .before .before .before .before)) _ (c .before .before .before .before .if2 .left) (c .before .before .if3 .left) (c .if4 .left)
+    let else2 = c .before .before .before .before in
+    let here = else2 .before .before in
+    back-accepted (book here) (session here) (none (else2 .before)) _ (else2 .if2 .left) (c .before .before .if3 .left) (c .if4 .left)
 
 pub backtrack-refusal-spec : {M : Type 1} → statement M
 backtrack-refusal-spec =

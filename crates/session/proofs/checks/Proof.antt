@@ -47,7 +47,9 @@ checks-at-requires c κs =
     (omega (arith, c .variables .ensures, few-variables (book passed) (session passed) (none passed)), omega (arith, c .before .clauses .ensures, few-clauses (book passed) (session passed) (none passed)))
 
 -- where the checks begin
-from-is : (c : tie.After-checks-at) → c .checks-at .result ≡ checksAt (variablesOf (book (c .before .before .before))) (clausesOf (book (c .before .before .before)))
+from-is : (c : tie.After-checks-at) →
+    let else1 = c .before .before .before in
+    c .checks-at .result ≡ checksAt (variablesOf (book else1)) (clausesOf (book else1))
 from-is c = c .checks-at .ensures ∙ ap₂ checksAt (c .before .variables .ensures) (c .before .before .clauses .ensures)
 
 add-copy : tie.Need-add-copy
@@ -79,17 +81,19 @@ copy-requires c κs = search needs
 
 cast-t17 : tie.Need-cast-t17
 cast-t17 c =
-    let passed = c .before .before .before .before .before .before .before .before in
-    omega (arith, c .before .before .before .before .before .before .before .clauses .ensures, few-clauses (book passed) (session passed) (none passed))
+    let after-clauses = c .before .before .before .before .before .before .before in
+    let passed = after-clauses .before in
+    omega (arith, after-clauses .clauses .ensures, few-clauses (book passed) (session passed) (none passed))
 
 same-length : tie.Need-same-length
 same-length c = search needs
 
 returns-2 : tie.Need-returns-2
 returns-2 c =
-    let passed = c .before .before .before .before .before .before .before .before in
-    let clauses = c .before .before .before .before .before .before .before .clauses in
-    let part = checks-part (book passed) (session passed) (none passed) (c .before .before .before .before .before .checks-at .result) (clauses .result) (from-is (c .before .before .before .before .before)) (clauses .ensures) in
+    let after-checks-at = c .before .before .before .before .before in
+    let passed = after-checks-at .before .before .before in
+    let clauses = after-checks-at .before .before .clauses in
+    let part = checks-part (book passed) (session passed) (none passed) (after-checks-at .checks-at .result) (clauses .result) (from-is after-checks-at) (clauses .ensures) in
     copy-is (book passed) (session passed) (none passed) checksOfRun _ (start passed .args .out .now) _ _ part
     (omega (arith, ap length part, checks-count (book passed) (session passed) (none passed), clauses .ensures)) (c .before .before .copy .ensures)
 

@@ -30,34 +30,40 @@ returns c = decide-refused (book (c .before)) (session (c .before)) (start (c .b
 slice-read-before : tie.Need-slice-read-before
 slice-read-before c =
     let here = c .before .before in
-    omega (arith, decide-long (book here) (session here) (start here .args .literal) (sym (c .before .if1 .left) ∙ c .before .before .decide-refusal .ensures))
+    omega (arith, decide-long (book here) (session here) (start here .args .literal) (sym (c .before .if1 .left) ∙ here .decide-refusal .ensures))
 
 add-before : tie.Need-add-before
 add-before c =
     let here = c .before .before in
-    omega (arith, decide-room (book here) (session here) (start here .args .literal) (sym (c .before .if1 .left) ∙ c .before .before .decide-refusal .ensures))
+    omega (arith, decide-room (book here) (session here) (start here .args .literal) (sym (c .before .if1 .left) ∙ here .decide-refusal .ensures))
 
 decide-requires : tie.Need-decide-requires
 decide-requires c κs =
-    let here = c .before .before .before in
-    (decide-holding (book here) (session here) (start here .args .literal) (sym (c .before .before .if1 .left) ∙ c .before .before .before .decide-refusal .ensures), decide-own (book here) (session here) (start here .args .literal) (sym (c .before .before .if1 .left) ∙ c .before .before .before .decide-refusal .ensures))
+    let else1 = c .before .before in
+    let here = else1 .before in
+    (decide-holding (book here) (session here) (start here .args .literal) (sym (else1 .if1 .left) ∙ here .decide-refusal .ensures), decide-own (book here) (session here) (start here .args .literal) (sym (else1 .if1 .left) ∙ here .decide-refusal .ensures))
 
 answered-requires : tie.Need-answered-requires
 answered-requires c κs =
-    let here = c .before .before .before .before .before .before .before in
-    let b = c .before .before .before .decide .ensures (decide-holding (book here) (session here) (start here .args .literal) (sym (c .before .before .before .before .before .before .if1 .left) ∙ c .before .before .before .before .before .before .before .decide-refusal .ensures)) (decide-own (book here) (session here) (start here .args .literal) (sym (c .before .before .before .before .before .before .if1 .left) ∙ c .before .before .before .before .before .before .before .decide-refusal .ensures)) in
-    (omega (arith, b .encodes .long), decide-grows (book here) (session here) (start here .args .literal) (sym (c .before .before .before .before .before .before .if1 .left) ∙ c .before .before .before .before .before .before .before .decide-refusal .ensures) _ b)
+    let else1 = c .before .before .before .before .before .before in
+    let here = else1 .before in
+    let b = c .before .before .before .decide .ensures (decide-holding (book here) (session here) (start here .args .literal) (sym (else1 .if1 .left) ∙ here .decide-refusal .ensures)) (decide-own (book here) (session here) (start here .args .literal) (sym (else1 .if1 .left) ∙ here .decide-refusal .ensures)) in
+    (omega (arith, b .encodes .long), decide-grows (book here) (session here) (start here .args .literal) (sym (else1 .if1 .left) ∙ here .decide-refusal .ensures) _ b)
 
 same-length-2 : tie.Need-same-length-2
 same-length-2 c =
-    let here = c .before .before .before .before .before .before .before .before in
-    (c .before .before .before .before .decide .ensures (decide-holding (book here) (session here) (start here .args .literal) (sym (c .before .before .before .before .before .before .before .if1 .left) ∙ c .before .before .before .before .before .before .before .before .decide-refusal .ensures)) (decide-own (book here) (session here) (start here .args .literal) (sym (c .before .before .before .before .before .before .before .if1 .left) ∙ c .before .before .before .before .before .before .before .before .decide-refusal .ensures))) .same-length
+    let after-decide = c .before .before .before .before in
+    let else1 = after-decide .before .before .before in
+    let here = else1 .before in
+    (after-decide .decide .ensures (decide-holding (book here) (session here) (start here .args .literal) (sym (else1 .if1 .left) ∙ here .decide-refusal .ensures)) (decide-own (book here) (session here) (start here .args .literal) (sym (else1 .if1 .left) ∙ here .decide-refusal .ensures))) .same-length
 
 returns-2 : tie.Need-returns-2
 returns-2 c =
-    let here = c .before .before .before .before .before .before .before .before in
-    let b = c .before .before .before .before .decide .ensures (decide-holding (book here) (session here) (start here .args .literal) (sym (c .before .before .before .before .before .before .before .if1 .left) ∙ c .before .before .before .before .before .before .before .before .decide-refusal .ensures)) (decide-own (book here) (session here) (start here .args .literal) (sym (c .before .before .before .before .before .before .before .if1 .left) ∙ c .before .before .before .before .before .before .before .before .decide-refusal .ensures)) in
-    let done = decide-done (book here) (session here) (start here .args .literal) (sym (c .before .before .before .before .before .before .before .if1 .left) ∙ c .before .before .before .before .before .before .before .before .decide-refusal .ensures) _ b in
+    let after-decide = c .before .before .before .before in
+    let else1 = after-decide .before .before .before in
+    let here = else1 .before in
+    let b = after-decide .decide .ensures (decide-holding (book here) (session here) (start here .args .literal) (sym (else1 .if1 .left) ∙ here .decide-refusal .ensures)) (decide-own (book here) (session here) (start here .args .literal) (sym (else1 .if1 .left) ∙ here .decide-refusal .ensures)) in
+    let done = decide-done (book here) (session here) (start here .args .literal) (sym (else1 .if1 .left) ∙ here .decide-refusal .ensures) _ b in
     (c .answered .ensures ∙ done .0, done .1)
 
 pub decide-spec : {M : Type 1} → statement M

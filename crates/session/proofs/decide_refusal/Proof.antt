@@ -59,8 +59,13 @@ returns-3 c =
     let passed = c .before .before .before .before in
     literal-high (book passed) (session passed) (none passed) _ (omega (arith, c .before .wide .ensures, c .before .before .variables .ensures, c .if3 .taken))
 
+abbrev else1-of-else3 : tie.Else3 → tie.Else1
+else1-of-else3 c = c .before .before .before .before
+
 -- the literal is one of the variables'
-high : (c : tie.Else3) → start (c .before .before .before .before) .args .literal ≤ 2 * variablesOf (book (c .before .before .before .before)) + 1
+high : (c : tie.Else3) →
+    let else1 = else1-of-else3 c in
+    start else1 .args .literal ≤ 2 * variablesOf (book else1) + 1
 high c = omega (arith, c .before .wide .ensures, c .before .before .variables .ensures, c .if3 .left)
 
 shared-slice-read-if4 : tie.Need-shared-slice-read-if4
@@ -70,14 +75,16 @@ shared-slice-read-if4 c =
 
 returns-4 : tie.Need-returns-4
 returns-4 c =
-    let passed = c .before .before .before .before .before .before in
-    decision-conflict (book passed) (session passed) (none passed) _ (c .before .before .before .before .before .if2 .left) (high (c .before .before)) (c .if4 .taken)
+    let else2 = c .before .before .before .before .before in
+    let passed = else2 .before in
+    decision-conflict (book passed) (session passed) (none passed) _ (else2 .if2 .left) (high (c .before .before)) (c .if4 .taken)
 
 literal-value-requires : tie.Need-literal-value-requires
 literal-value-requires c κs =
-    let passed = c .before .before .before .before .before .before in
-    let variables = c .before .before .before .before .variables in
-    (trail-fits (book passed) (session passed) (none passed) (variables .result) (variables .ensures), c .before .before .before .before .before .if2 .left, omega (arith, variables .ensures, high (c .before .before)))
+    let after-variables = c .before .before .before .before in
+    let passed = after-variables .before .before in
+    let variables = after-variables .variables in
+    (trail-fits (book passed) (session passed) (none passed) (variables .result) (variables .ensures), after-variables .before .if2 .left, omega (arith, variables .ensures, high (c .before .before)))
 
 enum-told : tie.Need-enum-told
 enum-told c = search needs
@@ -89,28 +96,34 @@ enum-told-3 : tie.Need-enum-told-3
 enum-told-3 c = search needs
 
 -- the value that was read is the literal's
-value-is : (c : tie.After-literal-value) → c .literal-value .result ≡ valueIn (held (formulaOf (book (c .before .before .before .before .before .before .before))) (session (c .before .before .before .before .before .before .before)) .trail) (start (c .before .before .before .before .before .before .before) .args .literal)
+value-is : (c : tie.After-literal-value) →
+    let else1 = c .before .before .before .before .before .before .before in
+    c .literal-value .result ≡ valueIn (held (formulaOf (book else1)) (session else1) .trail) (start else1 .args .literal)
 value-is c =
-    let passed = c .before .before .before .before .before .before .before in
-    let variables = c .before .before .before .before .before .variables in
-    value-answers (book passed) (session passed) (none passed) (variables .result) (start passed .args .literal) _ (variables .ensures) (c .before .before .before .before .before .before .if2 .left) (omega (arith, variables .ensures, high (c .before .before .before))) (c .literal-value .ensures)
+    let after-variables = c .before .before .before .before .before in
+    let passed = after-variables .before .before in
+    let variables = after-variables .variables in
+    value-answers (book passed) (session passed) (none passed) (variables .result) (start passed .args .literal) _ (variables .ensures) (after-variables .before .if2 .left) (omega (arith, variables .ensures, high (c .before .before .before))) (c .literal-value .ensures)
 
 returns-5 : tie.Need-returns-5
 returns-5 c =
-    let passed = c .before .before .before .before .before .before .before .before .before in
-    decision-open (book passed) (session passed) (none passed) (start passed .args .literal) (c .before .before .before .before .before .before .before .before .if2 .left) (high (c .before .before .before .before .before)) (c .before .before .before .if4 .left)
+    let else3 = c .before .before .before .before .before in
+    let passed = else1-of-else3 else3 in
+    decision-open (book passed) (session passed) (none passed) (start passed .args .literal) (else3 .before .before .before .if2 .left) (high else3) (c .before .before .before .if4 .left)
     (sym (c .enum-told .given .1) ∙ value-is (c .before .before))
 
 returns-6 : tie.Need-returns-6
 returns-6 c =
-    let passed = c .before .before .before .before .before .before .before .before .before in
-    decision-assigned (book passed) (session passed) (none passed) (start passed .args .literal) (c .before .before .before .before .before .before .before .before .if2 .left) (high (c .before .before .before .before .before)) (c .before .before .before .if4 .left)
+    let else3 = c .before .before .before .before .before in
+    let passed = else1-of-else3 else3 in
+    decision-assigned (book passed) (session passed) (none passed) (start passed .args .literal) (else3 .before .before .before .if2 .left) (high else3) (c .before .before .before .if4 .left)
     True (λ e. let z : _≡_ {A = ℕ} 0 1 = cc in omega arith) (sym (c .enum-told2 .given .1) ∙ value-is (c .before .before))
 
 returns-7 : tie.Need-returns-7
 returns-7 c =
-    let passed = c .before .before .before .before .before .before .before .before .before in
-    decision-assigned (book passed) (session passed) (none passed) (start passed .args .literal) (c .before .before .before .before .before .before .before .before .if2 .left) (high (c .before .before .before .before .before)) (c .before .before .before .if4 .left)
+    let else3 = c .before .before .before .before .before in
+    let passed = else1-of-else3 else3 in
+    decision-assigned (book passed) (session passed) (none passed) (start passed .args .literal) (else3 .before .before .before .if2 .left) (high else3) (c .before .before .before .if4 .left)
     False (λ e. let z : _≡_ {A = ℕ} 0 1 = cc in omega arith) (sym (c .enum-told3 .given .1) ∙ value-is (c .before .before))
 
 pub decide-refusal-spec : {M : Type 1} → statement M

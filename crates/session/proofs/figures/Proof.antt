@@ -47,13 +47,15 @@ shared-slice-read-t10 c =
 
 shared-slice-read-t12 : tie.Need-shared-slice-read-t12
 shared-slice-read-t12 c =
-    let here = c .before .before .before .before .before in
-    omega (arith, long (book here) (session here) (none (c .before .before .before .before)))
+    let else1 = c .before .before .before .before in
+    let here = else1 .before in
+    omega (arith, long (book here) (session here) (none else1))
 
 returns-2 : tie.Need-returns-2
 returns-2 c =
-    let here = c .before .before .before .before .before in
-    figures-are (book here) (session here) (none (c .before .before .before .before))
+    let else1 = c .before .before .before .before in
+    let here = else1 .before in
+    figures-are (book here) (session here) (none else1)
 
 pub figures-spec : {M : Type 1} → statement M
 figures-spec =

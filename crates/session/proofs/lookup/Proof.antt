@@ -68,16 +68,19 @@ enum-told-3 : tie.Need-enum-told-3
 enum-told-3 c = search needs
 
 -- a value that was read is shown as the variable's
-shown-is : (c : tie.After-literal-value) (value : Value) → c .literal-value .result ≡ value
-    → shownAs (book (c .before .before .before .before .before)) (session (c .before .before .before .before .before)) (none (c .before .before .before .before .before)) value ≡ lookupAnswer (book (c .before .before .before .before .before)) (session (c .before .before .before .before .before)) (start (c .before .before .before .before .before) .args .variable)
+shown-is : (c : tie.After-literal-value) →
+    let else1 = c .before .before .before .before .before in
+    (value : Value) → c .literal-value .result ≡ value
+    → shownAs (book else1) (session else1) (none else1) value ≡ lookupAnswer (book else1) (session else1) (start else1 .args .variable)
 shown-is c value e =
-    let passed = c .before .before .before .before .before in
-    let variables = c .before .before .before .variables in
+    let after-wide = c .before .before in
+    let passed = after-wide .before .before .before in
+    let variables = after-wide .before .variables in
     let within = c .before .if3 .left in
-    let some = c .before .before .before .before .if2 .left in
+    let some = after-wide .before .before .if2 .left in
     ap (shownAs (book passed) (session passed) (none passed))
-    (value-answers (book passed) (session passed) (none passed) (variables .result) (2 * start passed .args .variable) value (variables .ensures) (omega (arith, some)) (omega (arith, c .before .before .wide .ensures, within)) (sym e ∙ c .literal-value .ensures))
-    ∙ variable-is (book passed) (session passed) (none passed) (start passed .args .variable) some (omega (arith, c .before .before .wide .ensures, variables .ensures, within))
+    (value-answers (book passed) (session passed) (none passed) (variables .result) (2 * start passed .args .variable) value (variables .ensures) (omega (arith, some)) (omega (arith, after-wide .wide .ensures, within)) (sym e ∙ c .literal-value .ensures))
+    ∙ variable-is (book passed) (session passed) (none passed) (start passed .args .variable) some (omega (arith, after-wide .wide .ensures, variables .ensures, within))
 
 returns-4 : tie.Need-returns-4
 returns-4 c = shown-is (c .before .before) _ (c .enum-told .given .1)

@@ -18,7 +18,9 @@ returns : tie.Need-returns
 returns c = open-refused (start (c .before) .args .book .now) (start (c .before) .args .session .now) _ (c .before .open-refusal .ensures) (c .if1 .taken)
 
 open-requires : tie.Need-open-requires
-open-requires c κs = open-accepted (start (c .before .before) .args .book .now) (start (c .before .before) .args .session .now) (sym (sym (c .before .if1 .left) ∙ c .before .before .open-refusal .ensures))
+open-requires c κs =
+    let here = c .before .before in
+    open-accepted (start here .args .book .now) (start here .args .session .now) (sym (sym (c .before .if1 .left) ∙ here .open-refusal .ensures))
 
 answered-requires : tie.Need-answered-requires
 answered-requires c κs = (omega (arith, c .before .before .before .open .ensures .encodes .long), omega arith)
@@ -28,8 +30,9 @@ same-length c = c .before .before .before .before .open .ensures .same-length
 
 returns-2 : tie.Need-returns-2
 returns-2 c =
-    let here = c .before .before .before .before .before .before .before in
-    let done = open-done (start here .args .book .now) (start here .args .session .now) _ (sym (c .before .before .before .before .before .before .if1 .left) ∙ c .before .before .before .before .before .before .before .open-refusal .ensures) (c .before .before .before .before .open .ensures) in
+    let after-open = c .before .before .before .before in
+    let here = after-open .before .before .before in
+    let done = open-done (start here .args .book .now) (start here .args .session .now) _ (sym (after-open .before .before .if1 .left) ∙ here .open-refusal .ensures) (after-open .open .ensures) in
     (c .answered .ensures ∙ done .0, done .1)
 
 pub open-spec : {M : Type 1} → statement M

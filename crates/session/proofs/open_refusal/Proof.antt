@@ -27,7 +27,9 @@ well : (c : tie.Else1) → wellFormed (book c) ≡ true
 well c = sym (c .before .well-formed .ensures) ∙ not-false _ (c .if1 .left)
 
 returns : tie.Need-returns
-returns c = open-eleven (c .before .before .before .args .book .now) [] (c .before .before .before .args .room) (sym (c .before .well-formed .ensures) ∙ not-true _ (c .if1 .taken))
+returns c =
+    let entry = c .before .before .before in
+    open-eleven (entry .args .book .now) [] (entry .args .room) (sym (c .before .well-formed .ensures) ∙ not-true _ (c .if1 .taken))
 
 variables-requires : tie.Need-variables-requires
 variables-requires c κs = search needs
@@ -37,11 +39,14 @@ clauses-requires c κs = search needs
 
 required-length-requires : tie.Need-required-length-requires
 required-length-requires c κs =
-    let limited = well-formed-limited (book (c .before .before)) (well (c .before .before)) in
+    let else1 = c .before .before in
+    let limited = well-formed-limited (book else1) (well else1) in
     (omega (arith, c .before .variables .ensures), omega (arith, c .clauses .ensures))
 
 -- the length that was computed is the required one
-length-is : (c : tie.After-required-length) → c .required-length .result ≡ requiredLength (variablesOf (book (c .before .before .before))) (clausesOf (book (c .before .before .before)))
+length-is : (c : tie.After-required-length) →
+    let else1 = c .before .before .before in
+    c .required-length .result ≡ requiredLength (variablesOf (book else1)) (clausesOf (book else1))
 length-is c =
     c .required-length .ensures ∙ ap₂ requiredLength (c .before .before .variables .ensures) (c .before .clauses .ensures)
 

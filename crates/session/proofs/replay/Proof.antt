@@ -24,12 +24,17 @@ abbrev start : (c : tie.After-open-refusal Inv-loop μ-loop) → tie.Start Inv-l
 start c = c .before .before .before .before
 
 -- what the session is where the two kinds of a call meet
-joined : (c : tie.Joined2 Inv-loop μ-loop) → Replaying (start (c .before .before .before .before .before .before .before .before .before .before) .args .book .now) (start (c .before .before .before .before .before .before .before .before .before .before) .args .calls .now) (c .before .before .before .before .before .before .before .open .last .1 .0) (c .if2 .session) (c .before .before .before .before .loop .i + 2)
+joined : (c : tie.Joined2 Inv-loop μ-loop) →
+    let at-loop = c .before .before .before .before in
+    let here = at-loop .before .before .before .before .before .before in
+    Replaying (start here .args .book .now) (start here .args .calls .now) (at-loop .before .before .before .open .last .1 .0) (c .if2 .session) (at-loop .loop .i + 2)
 joined c =
-    let here = c .before .before .before .before .before .before .before .before .before .before in
+    let in-loop = c .before .before .before in
+    let after-open = in-loop .before .before .before .before in
+    let here = after-open .before .before .before in
     ⊎-elim
-    (λ w. replaying-decision (start here .args .book .now) (start here .args .calls .now) (c .before .before .before .before .before .before .before .open .last .1 .0) (c .before .before .before .before .loop .session) _ (c .before .before .before .before .loop .i) (c .before .before .before .before .loop .inv) (c .before .before .before .loop-test .taken) (ap length (w .5) ∙ w .2 .kept .1 .0) (w .0 .taken) (w .5 ∙ w .2 .ensures .1))
-    (λ w. replaying-backtrack (start here .args .book .now) (start here .args .calls .now) (c .before .before .before .before .before .before .before .open .last .1 .0) (c .before .before .before .before .loop .session) _ (c .before .before .before .before .loop .i) (c .before .before .before .before .loop .inv) (c .before .before .before .loop-test .taken) (ap length (w .5) ∙ w .2 .kept .1 .0) (w .0 .left) (w .5 ∙ w .2 .ensures .1))
+    (λ w. replaying-decision (start here .args .book .now) (start here .args .calls .now) (after-open .open .last .1 .0) (in-loop .before .loop .session) _ (in-loop .before .loop .i) (in-loop .before .loop .inv) (in-loop .loop-test .taken) (ap length (w .5) ∙ w .2 .kept .1 .0) (w .0 .taken) (w .5 ∙ w .2 .ensures .1))
+    (λ w. replaying-backtrack (start here .args .book .now) (start here .args .calls .now) (after-open .open .last .1 .0) (in-loop .before .loop .session) _ (in-loop .before .loop .i) (in-loop .before .loop .inv) (in-loop .loop-test .taken) (ap length (w .5) ∙ w .2 .kept .1 .0) (w .0 .left) (w .5 ∙ w .2 .ensures .1))
     (c .if2 .came)
 
 open-refusal-requires : tie.Need-open-refusal-requires Inv-loop μ-loop
@@ -41,7 +46,9 @@ returns c =
     (out .0, (out .1, λ z. absurd (c .if1 .taken (c .before .open-refusal .ensures ∙ z))))
 
 open-requires : tie.Need-open-requires Inv-loop μ-loop
-open-requires c κs = open-accepted (start (c .before .before) .args .book .now) (start (c .before .before) .args .session .now) (sym (sym (c .before .if1 .left) ∙ c .before .before .open-refusal .ensures))
+open-requires c κs =
+    let here = c .before .before in
+    open-accepted (start here .args .book .now) (start here .args .session .now) (sym (sym (c .before .if1 .left) ∙ here .open-refusal .ensures))
 
 loop-holds : tie.Need-loop-holds Inv-loop μ-loop
 loop-holds c =
@@ -55,13 +62,17 @@ add-number : tie.Need-add-number Inv-loop μ-loop
 add-number c = omega (arith, c .before .loop .inv .within)
 
 mul-number : tie.Need-mul-number Inv-loop μ-loop
-mul-number c = omega (arith, c .before .before .before .before .before .before .before .before .before .before .before .good, c .loop-test .taken)
+mul-number c =
+    let entry = c .before .before .before .before .before .before .before .before .before .before .before in
+    omega (arith, entry .good, c .loop-test .taken)
 
 shared-slice-read-number : tie.Need-shared-slice-read-number Inv-loop μ-loop
 shared-slice-read-number c = search needs
 
 mul-if2 : tie.Need-mul-if2 Inv-loop μ-loop
-mul-if2 c = omega (arith, c .before .before .before .before .before .before .before .before .before .before .before .before .good, c .before .loop-test .taken)
+mul-if2 c =
+    let entry = c .before .before .before .before .before .before .before .before .before .before .before .before in
+    omega (arith, entry .good, c .before .loop-test .taken)
 
 shared-slice-read-if2 : tie.Need-shared-slice-read-if2 Inv-loop μ-loop
 shared-slice-read-if2 c = omega arith
@@ -82,25 +93,34 @@ loop-again : tie.Need-loop-again Inv-loop μ-loop
 loop-again c = joined c
 
 -- the session after the last call
-finished : (c : tie.After-loop Inv-loop μ-loop) → c .before .loop .session ≡ replayNumbers (start (c .before .before .before .before .before .before .before) .args .book .now) (callsOf (start (c .before .before .before .before .before .before .before) .args .calls .now)) (start (c .before .before .before .before .before .before .before) .args .session .now)
-finished c =
+finished : (c : tie.After-loop Inv-loop μ-loop) →
     let here = c .before .before .before .before .before .before .before in
-    replay-numbers (start here .args .book .now) (start here .args .session .now) (callsOf (start here .args .calls .now)) _ _ (sym (c .before .before .before .before .before .before .if1 .left) ∙ c .before .before .before .before .before .before .before .open-refusal .ensures) (open-done (start here .args .book .now) (start here .args .session .now) _ (sym (c .before .before .before .before .before .before .if1 .left) ∙ c .before .before .before .before .before .before .before .open-refusal .ensures) (c .before .before .before .before .open .ensures) .1)
+    c .before .loop .session ≡ replayNumbers (start here .args .book .now) (callsOf (start here .args .calls .now)) (start here .args .session .now)
+finished c =
+    let after-open = c .before .before .before .before in
+    let else1 = after-open .before .before in
+    let here = else1 .before in
+    replay-numbers (start here .args .book .now) (start here .args .session .now) (callsOf (start here .args .calls .now)) _ _ (sym (else1 .if1 .left) ∙ here .open-refusal .ensures) (open-done (start here .args .book .now) (start here .args .session .now) _ (sym (else1 .if1 .left) ∙ here .open-refusal .ensures) (after-open .open .ensures) .1)
     (replaying-all (start here .args .book .now) (start here .args .calls .now) _ _ (c .before .loop .i) (c .before .loop .inv) (omega (arith, c .loop-test .left)))
 
 answered-requires : tie.Need-answered-requires Inv-loop μ-loop
 answered-requires c κs =
-    let here = c .before .before .before .before .before .before .before .before in
-    (replay-done (start here .args .book .now) (start here .args .session .now) (callsOf (start here .args .calls .now)) _ (sym (c .before .before .before .before .before .before .before .if1 .left) ∙ c .before .before .before .before .before .before .before .before .open-refusal .ensures) (finished (c .before)) .1, omega arith)
+    let else1 = c .before .before .before .before .before .before .before in
+    let here = else1 .before in
+    (replay-done (start here .args .book .now) (start here .args .session .now) (callsOf (start here .args .calls .now)) _ (sym (else1 .if1 .left) ∙ here .open-refusal .ensures) (finished (c .before)) .1, omega arith)
 
 same-length : tie.Need-same-length Inv-loop μ-loop
-same-length c = c .before .before .before .loop .inv .same-length ∙ c .before .before .before .before .before .before .open .ensures .same-length
+same-length c =
+    let after-open = c .before .before .before .before .before .before in
+    c .before .before .before .loop .inv .same-length ∙ after-open .open .ensures .same-length
 
 returns-2 : tie.Need-returns-2 Inv-loop μ-loop
 returns-2 c =
-    let here = c .before .before .before .before .before .before .before .before .before in
-    let done = replay-done (start here .args .book .now) (start here .args .session .now) (callsOf (start here .args .calls .now)) _ (sym (c .before .before .before .before .before .before .before .before .if1 .left) ∙ c .before .before .before .before .before .before .before .before .before .open-refusal .ensures) (finished (c .before .before)) in
-    (c .answered .ensures ∙ done .0, (finished (c .before .before), statement-3 (start here .args .book .now) (start here .args .session .now) (callsOf (start here .args .calls .now))))
+    let after-loop = c .before .before in
+    let else1 = after-loop .before .before .before .before .before .before in
+    let here = else1 .before in
+    let done = replay-done (start here .args .book .now) (start here .args .session .now) (callsOf (start here .args .calls .now)) _ (sym (else1 .if1 .left) ∙ here .open-refusal .ensures) (finished after-loop) in
+    (c .answered .ensures ∙ done .0, (finished after-loop, statement-3 (start here .args .book .now) (start here .args .session .now) (callsOf (start here .args .calls .now))))
 
 pub replay-spec : {M : Type 1} → statement M
 replay-spec =

@@ -31,7 +31,9 @@ none : (c : tie.Else1) → 0 ≡ readRefusal (book c) (session c)
 none c = sym (c .if1 .left) ∙ c .before .validate .ensures
 
 returns : tie.Need-returns
-returns c = total-refused (c .before .before .before .before .args .book .now) (c .before .before .before .before .args .session .now) _ (c .before .validate .ensures) (c .if1 .taken)
+returns c =
+    let entry = c .before .before .before .before in
+    total-refused (entry .args .book .now) (entry .args .session .now) _ (c .before .validate .ensures) (c .if1 .taken)
 
 clauses-requires : tie.Need-clauses-requires
 clauses-requires c κs = search needs
@@ -45,7 +47,9 @@ checks-at-requires c κs =
     (omega (arith, c .variables .ensures, few-variables (book passed) (session passed) (none passed)), omega (arith, c .before .clauses .ensures, few-clauses (book passed) (session passed) (none passed)))
 
 -- where the checks begin
-from-is : (c : tie.After-checks-at) → c .checks-at .result ≡ checksAt (variablesOf (book (c .before .before .before))) (clausesOf (book (c .before .before .before)))
+from-is : (c : tie.After-checks-at) →
+    let else1 = c .before .before .before in
+    c .checks-at .result ≡ checksAt (variablesOf (book else1)) (clausesOf (book else1))
 from-is c = c .checks-at .ensures ∙ ap₂ checksAt (c .before .variables .ensures) (c .before .before .clauses .ensures)
 
 add-sum-of : tie.Need-add-sum-of
@@ -73,12 +77,14 @@ part-sum-of-end c =
     omega (arith, c .checks-at .ensures)
 
 -- the part that is summed up
-part-is : (c : tie.After-checks-at)
-    → take (c .checks-at .result + c .before .before .clauses .result - c .checks-at .result) (drop (c .checks-at .result) (session (c .before .before .before)))
-    ≡ held (formulaOf (book (c .before .before .before))) (session (c .before .before .before)) .checks
+part-is : (c : tie.After-checks-at) →
+    let else1 = c .before .before .before in
+    take (c .checks-at .result + c .before .before .clauses .result - c .checks-at .result) (drop (c .checks-at .result) (session else1))
+    ≡ held (formulaOf (book else1)) (session else1) .checks
 part-is c =
-    let passed = c .before .before .before in
-    checks-part (book passed) (session passed) (none passed) (c .checks-at .result) (c .before .before .clauses .result) (from-is c) (c .before .before .clauses .ensures)
+    let after-clauses = c .before .before in
+    let passed = after-clauses .before in
+    checks-part (book passed) (session passed) (none passed) (c .checks-at .result) (after-clauses .clauses .result) (from-is c) (after-clauses .clauses .ensures)
 
 sum-of-requires : tie.Need-sum-of-requires
 sum-of-requires c κs =

@@ -49,8 +49,10 @@ same-length c = search needs
 
 returns-2 : tie.Need-returns-2
 returns-2 c =
-    let here = c .before .before .before .before .before .before .before .before in
-    copy-is (book here) (session here) (none (c .before .before .before .before .before .before .before)) (trailBehind (start here .args .before)) _ (start here .args .out .now) _ 0 (trail-none (book here) (session here) (none (c .before .before .before .before .before .before .before)) (start here .args .before) (c .before .before .before .before .before .if2 .taken)) refl (c .before .before .copy .ensures)
+    let then2 = c .before .before .before .before .before in
+    let else1 = then2 .before .before in
+    let here = else1 .before in
+    copy-is (book here) (session here) (none else1) (trailBehind (start here .args .before)) _ (start here .args .out .now) _ 0 (trail-none (book here) (session here) (none else1) (start here .args .before) (then2 .if2 .taken)) refl (c .before .before .copy .ensures)
 
 wide-requires : tie.Need-wide-requires
 wide-requires c κs = search needs
@@ -63,8 +65,9 @@ wide-requires-2 c κs = search needs
 
 add-to : tie.Need-add-to
 add-to c =
-    let here = c .before .before .before .before .before in
-    omega (arith, c .wide2 .ensures, count-within (book here) (session here) (none (c .before .before .before .before)))
+    let else1 = c .before .before .before .before in
+    let here = else1 .before in
+    omega (arith, c .wide2 .ensures, count-within (book here) (session here) (none else1))
 
 mul-copy : tie.Need-mul-copy
 mul-copy c = search needs
@@ -77,8 +80,9 @@ part-copy-start c = search needs
 
 part-copy-end : tie.Need-part-copy-end
 part-copy-end c =
-    let here = c .before .before .before .before .before in
-    omega (arith, c .wide2 .ensures, count-within (book here) (session here) (none (c .before .before .before .before)), trail-inside (book here) (session here) (none (c .before .before .before .before)))
+    let else1 = c .before .before .before .before in
+    let here = else1 .before in
+    omega (arith, c .wide2 .ensures, count-within (book here) (session here) (none else1), trail-inside (book here) (session here) (none else1))
 
 copy-requires-2 : tie.Need-copy-requires-2
 copy-requires-2 c κs = search needs
@@ -91,9 +95,12 @@ same-length-2 c = search needs
 
 returns-3 : tie.Need-returns-3
 returns-3 c =
-    let here = c .before .before .before .before .before .before .before .before .before .before in
-    let part = trail-behind (book here) (session here) (none (c .before .before .before .before .before .before .before .before .before)) (start here .args .before) _ _ (ap (λ (k : ℕ). trailAt + k) (c .before .before .before .before .before .before .wide .ensures)) (ap (λ (k : ℕ). trailAt + k) (c .before .before .before .before .before .wide2 .ensures)) (omega (arith, c .before .before .before .before .before .before .before .if2 .left)) in
-    copy-is (book here) (session here) (none (c .before .before .before .before .before .before .before .before .before)) (trailBehind (start here .args .before)) _ (start here .args .out .now) _ _ part (simp (length-take, length-drop) (omega (arith, c .before .before .before .before .before .before .wide .ensures, c .before .before .before .before .before .wide2 .ensures, trail-inside (book here) (session here) (none (c .before .before .before .before .before .before .before .before .before)), c .before .before .before .before .before .before .before .if2 .left))) (c .before .before .copy2 .ensures)
+    let after-wide2 = c .before .before .before .before .before in
+    let else2 = after-wide2 .before .before in
+    let else1 = else2 .before .before in
+    let here = else1 .before in
+    let part = trail-behind (book here) (session here) (none else1) (start here .args .before) _ _ (ap (λ (k : ℕ). trailAt + k) (after-wide2 .before .wide .ensures)) (ap (λ (k : ℕ). trailAt + k) (after-wide2 .wide2 .ensures)) (omega (arith, else2 .if2 .left)) in
+    copy-is (book here) (session here) (none else1) (trailBehind (start here .args .before)) _ (start here .args .out .now) _ _ part (simp (length-take, length-drop) (omega (arith, after-wide2 .before .wide .ensures, after-wide2 .wide2 .ensures, trail-inside (book here) (session here) (none else1), else2 .if2 .left))) (c .before .before .copy2 .ensures)
 
 pub trail-from-spec : {M : Type 1} → statement M
 trail-from-spec =

@@ -42,7 +42,9 @@ clauses-requires : tie.Need-clauses-requires
 clauses-requires c κs = tt
 
 required-length-requires : tie.Need-required-length-requires
-required-length-requires c κs = omega (arith, well-formed-limited _ (c .before .before .before .before .pre))
+required-length-requires c κs =
+    let entry = c .before .before .before .before in
+    omega (arith, well-formed-limited _ (entry .pre))
 
 returns : tie.Need-returns
 returns c =
@@ -108,7 +110,8 @@ cells-pass-requires c κs = passed (c .before .before) .fits
 
 returns-6 : tie.Need-returns-6
 returns-6 c =
-    parts-fail _ _ (start-4 (c .before .before .before .before) .pre) (λ p. c .before .cells-pass .ensures .no (not-true _ (c .if6 .taken)) (p .built .cells))
+    let else4 = c .before .before .before .before in
+    parts-fail _ _ (start-4 else4 .pre) (λ p. c .before .cells-pass .ensures .no (not-true _ (c .if6 .taken)) (p .built .cells))
 
 lists-pass-requires : tie.Need-lists-pass-requires
 lists-pass-requires c κs =
@@ -123,13 +126,14 @@ returns-7 c =
 -- what holds in conflict and out of it
 built : (c : tie.Else7) → Built (start-7 c .args .book .now) (start-7 c .args .session .now)
 built c =
+    let else5 = c .before .before .before .before in
     let trail = passed (trail-of (c .before)) in
     record {
       fits = trail .fits;
       conflict-within = omega arith;
       backtracks-within = omega arith;
       trail = trail .good;
-      reasons = c .before .before .before .before .before .justified .ensures .yes (not-false _ (c .before .before .before .before .if5 .left));
+      reasons = else5 .before .justified .ensures .yes (not-false _ (else5 .if5 .left));
       cells = c .before .before .before .cells-pass .ensures .yes (not-false _ (c .before .before .if6 .left));
       lists = c .before .lists-pass .ensures .yes (not-false _ (c .if7 .left));
     }
@@ -167,20 +171,22 @@ conflict-false-requires c κs = (passed (trail-of (c .before .before)), omega ar
 
 returns-9 : tie.Need-returns-9
 returns-9 c =
-    let start = start-7 (c .before .before .before) in
+    let else7 = c .before .before .before in
+    let start = start-7 else7 in
     let some : 0 < getD (start .args .session .now) conflictAt 0 = omega arith in
     parts-fail _ _ (start .pre)
     (λ p.
     c .before .conflict-false .ensures .no (not-true _ (c .if9 .taken))
-    (conflict-from (start .args .book .now) (start .args .session .now) _ (name-is (c .before .before .before)) (p .conflict some)))
+    (conflict-from (start .args .book .now) (start .args .session .now) _ (name-is else7) (p .conflict some)))
 
 -- the conflict clause is all false
 all-false : (c : tie.Else9) →
     let start = start-7 (c .before .before .before) in
     AllFalse (formulaOf (start .args .book .now)) (start .args .session .now) (getD (start .args .session .now) conflictAt 0 - 1)
 all-false c =
-    let start = start-7 (c .before .before .before) in
-    conflict-to (start .args .book .now) (start .args .session .now) _ (name-is (c .before .before .before))
+    let else7 = c .before .before .before in
+    let start = start-7 else7 in
+    conflict-to (start .args .book .now) (start .args .session .now) _ (name-is else7)
     (c .before .conflict-false .ensures .yes (not-false _ (c .if9 .left)))
 
 shared-slice-read-if10 : tie.Need-shared-slice-read-if10
@@ -202,7 +208,9 @@ returns-10 c =
     (small listed))
 
 fixpoint-requires-2 : tie.Need-fixpoint-requires-2
-fixpoint-requires-2 c κs = let listed = c .before .before .before .before .before in (passed (trail-of (listed .before)), built listed .cells)
+fixpoint-requires-2 c κs =
+    let listed = c .before .before .before .before .before in
+    (passed (trail-of (listed .before)), built listed .cells)
 
 returns-11 : tie.Need-returns-11
 returns-11 c =

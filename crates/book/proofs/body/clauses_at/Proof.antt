@@ -44,22 +44,30 @@ enum-told-2 : tie.Need-enum-told-2 Inv-loop μ-loop
 enum-told-2 c = search needs
 
 returns-2 : tie.Need-returns-2 Inv-loop μ-loop
-returns-2 c = so-far-open (c .before .before .before .before .loop .inv) (stepped (c .before .before .before) (c .before .enum-told2 .given .1)) (c .if1 .taken)
+returns-2 c =
+    let at-loop = c .before .before .before .before in
+    so-far-open (at-loop .loop .inv) (stepped (c .before .before .before) (c .before .enum-told2 .given .1)) (c .if1 .taken)
 
 returns-3 : tie.Need-returns-3 Inv-loop μ-loop
-returns-3 c = so-far-few (c .before .before .before .before .before .loop .inv) (stepped (c .before .before .before .before) (c .before .before .enum-told2 .given .1)) (c .if2 .taken)
+returns-3 c =
+    let after-next = c .before .before .before .before in
+    so-far-few (after-next .before .loop .inv) (stepped after-next (c .before .before .enum-told2 .given .1)) (c .if2 .taken)
 
 cast-t21 : tie.Need-cast-t21 Inv-loop μ-loop
 cast-t21 c = omega arith
 
 returns-4 : tie.Need-returns-4 Inv-loop μ-loop
-returns-4 c = so-far-all (c .before .before .before .before .before .loop .inv) (stepped (c .before .before .before .before) (c .before .before .enum-told2 .given .1)) (c .before .if1 .left) (c .if2 .left)
+returns-4 c =
+    let after-next = c .before .before .before .before in
+    so-far-all (after-next .before .loop .inv) (stepped after-next (c .before .before .enum-told2 .given .1)) (c .before .if1 .left) (c .if2 .left)
 
 enum-known-next : tie.Need-enum-known-next Inv-loop μ-loop
 enum-known-next c = search needs
 
 returns-5 : tie.Need-returns-5 Inv-loop μ-loop
-returns-5 c = so-far-short (c .before .before .before .before .before .loop .inv) _ (stepped (c .before .before .before .before) (c .before .before .next2 .given .1)) (c .if3 .taken)
+returns-5 c =
+    let after-next = c .before .before .before .before in
+    so-far-short (after-next .before .loop .inv) _ (stepped after-next (c .before .before .next2 .given .1)) (c .if3 .taken)
 
 add-closed : tie.Need-add-closed Inv-loop μ-loop
 add-closed c = omega arith
@@ -78,20 +86,31 @@ element-write-numbers-2 c = omega arith
 
 loop-less : tie.Need-loop-less Inv-loop μ-loop
 loop-less c =
-    let step = stepped (c .before .before .before .before) (c .before .before .next2 .given .1) in
+    let after-next = c .before .before .before .before in
+    let step = stepped after-next (c .before .before .next2 .given .1) in
     omega (arith, step .ahead, step .within)
 
 loop-again : tie.Need-loop-again Inv-loop μ-loop
-loop-again c = so-far-close (c .before .before .before .before .before .loop .inv) _ (c .before .before .before .before .before .before .before .pre .2) (stepped (c .before .before .before .before) (c .before .before .next2 .given .1)) (c .if3 .left)
+loop-again c =
+    let after-next = c .before .before .before .before in
+    so-far-close (after-next .before .loop .inv) _ (after-next .before .before .before .pre .2) (stepped after-next (c .before .before .next2 .given .1)) (c .if3 .left)
 
 enum-known-l : tie.Need-enum-known-l Inv-loop μ-loop
 enum-known-l c = search needs
 
 literal-fault-requires : tie.Need-literal-fault-requires Inv-loop μ-loop
-literal-fault-requires c κs = (c .before .before .before .before .before .before .before .pre .1, omega arith, omega arith)
+literal-fault-requires c κs =
+    let entry = c .before .before .before .before .before .before .before in
+    (entry .pre .1, omega arith, omega arith)
+
+abbrev entry-of-after-l : tie.After-l Inv-loop μ-loop → tie.Start Inv-loop μ-loop
+entry-of-after-l c = c .before .before .before .before .before
 
 returns-6 : tie.Need-returns-6 Inv-loop μ-loop
-returns-6 c = so-far-fault (c .before .before .before .before .before .before .before .loop .inv) (c .before .before .before .before .l .given .0 .0) (c .before .literal-fault .result) (c .before .before .before .before .before .before .before .before .before .pre .1) (c .before .literal-fault .ensures .0) _ (stepped (c .before .before .before .before .before .before) (c .before .before .before .before .l .given .1)) (c .if4 .taken)
+returns-6 c =
+    let after-l = c .before .before .before .before in
+    let entry = entry-of-after-l after-l in
+    so-far-fault (after-l .before .before .before .loop .inv) (after-l .l .given .0 .0) (c .before .literal-fault .result) (entry .pre .1) (c .before .literal-fault .ensures .0) _ (stepped (after-l .before .before) (after-l .l .given .1)) (c .if4 .taken)
 
 add-numbers-2 : tie.Need-add-numbers-2 Inv-loop μ-loop
 add-numbers-2 c = omega arith
@@ -102,21 +121,30 @@ add-numbers-3 c = omega arith
 mul-numbers-2 : tie.Need-mul-numbers-2 Inv-loop μ-loop
 mul-numbers-2 c = omega arith
 
+abbrev after-l-of-else4 : tie.Else4 Inv-loop μ-loop → tie.After-l Inv-loop μ-loop
+after-l-of-else4 c = c .before .before .before .before
+
 element-write-numbers-3 : tie.Need-element-write-numbers-3 Inv-loop μ-loop
-element-write-numbers-3 c = omega (arith, c .before .before .before .before .before .before .before .before .before .pre .2, total-below (c .before .before .before .before .before .before .before .loop .inv) (c .before .before .before .before .l .given .0 .0) (c .before .literal-fault .result) (c .before .before .before .before .before .before .before .before .before .pre .1) (c .before .literal-fault .ensures .0) (c .if4 .left) (c .before .before .before .before .before .before .before .before .before .pre .2))
+element-write-numbers-3 c =
+    let after-l = after-l-of-else4 c in
+    let entry = entry-of-after-l after-l in
+    omega (arith, entry .pre .2, total-below (after-l .before .before .before .loop .inv) (after-l .l .given .0 .0) (c .before .literal-fault .result) (entry .pre .1) (c .before .literal-fault .ensures .0) (c .if4 .left) (entry .pre .2))
 
 add-total : tie.Need-add-total Inv-loop μ-loop
 add-total c = omega arith
 
 loop-less-2 : tie.Need-loop-less-2 Inv-loop μ-loop
 loop-less-2 c =
-    let step = stepped (c .before .before .before .before .before .before) (c .before .before .before .before .l .given .1) in
+    let after-l = after-l-of-else4 c in
+    let step = stepped (after-l .before .before) (after-l .l .given .1) in
     omega (arith, step .ahead, step .within)
 
 loop-again-2 : tie.Need-loop-again-2 Inv-loop μ-loop
 loop-again-2 c =
+    let after-l = after-l-of-else4 c in
+    let entry = entry-of-after-l after-l in
     rw (c .before .literal-fault .ensures .1 (c .if4 .left))
-    (so-far-literal (c .before .before .before .before .before .before .before .loop .inv) (c .before .before .before .before .l .given .0 .0) (c .before .literal-fault .result) (c .before .before .before .before .before .before .before .before .before .pre .1) (c .before .literal-fault .ensures .0) (c .if4 .left) (c .before .before .before .before .before .before .before .before .before .pre .2) _ (stepped (c .before .before .before .before .before .before) (c .before .before .before .before .l .given .1)))
+    (so-far-literal (after-l .before .before .before .loop .inv) (after-l .l .given .0 .0) (c .before .literal-fault .result) (entry .pre .1) (c .before .literal-fault .ensures .0) (c .if4 .left) (entry .pre .2) _ (stepped (after-l .before .before) (after-l .l .given .1)))
 
 pub clauses-at-spec : {M : Type 1} → statement M
 clauses-at-spec =

@@ -13,15 +13,21 @@ use Rattle.book.proofs.body.literal_fault.Statement.{statement}
 use Rattle.book.proofs.body.literal_fault.Tie as tie
 
 -- the answer of `mark`, said of the literal's variable
-seen : (c : tie.After-mark) {b : Bool} → c .mark .result ≡ b
-    → eqb (getD (c .before .before .before .before .before .before .args .marks .now) (variableOf (c .before .before .before .before .before .before .args .l)) 0) (c .before .before .before .before .before .before .args .at .closed + 1) ≡ b
+seen : (c : tie.After-mark) {b : Bool} →
+    let entry = c .before .before .before .before .before .before in
+    c .mark .result ≡ b
+    → eqb (getD (entry .args .marks .now) (variableOf (entry .args .l)) 0) (entry .args .at .closed + 1) ≡ b
 seen c e =
-    ap (λ (v : ℕ). eqb (getD (c .before .before .before .before .before .before .args .marks .now) v 0) (c .before .before .before .before .before .before .args .at .closed + 1)) (sym (c .before .before .before .before .wide .ensures .0))
+    let after-wide = c .before .before .before .before in
+    let entry = after-wide .before .before in
+    ap (λ (v : ℕ). eqb (getD (entry .args .marks .now) v 0) (entry .args .at .closed + 1)) (sym (after-wide .wide .ensures .0))
     ∙ sym (c .mark .ensures .0)
     ∙ e
 
 -- the literal does not begin a surplus clause
-wanted : (c : tie.Joined4) → (c .before .before .before .before .before .before .before .before .args .at .total - c .before .before .before .before .before .before .before .before .args .at .first ≡ 0 → ⊥) ⊎ (c .before .before .before .before .before .before .before .before .args .at .closed < c .before .before .before .before .before .before .before .before .args .clauses)
+wanted : (c : tie.Joined4) →
+    let entry = c .before .before .before .before .before .before .before .before in
+    (entry .args .at .total - entry .args .at .first ≡ 0 → ⊥) ⊎ (entry .args .at .closed < entry .args .clauses)
 wanted c = ⊎-elim (λ w. inr (w .1 .left)) (λ w. inl (w .left)) (c .if4 .came)
 
 sub-opened : tie.Need-sub-opened
@@ -49,16 +55,23 @@ returns-3 : tie.Need-returns-3
 returns-3 c = (sym (fault-repeated _ _ _ _ _ _ _ (omega arith) (c .before .before .before .if2 .left) (seen (c .before) (c .if3 .taken))), (λ z. absurd (omega arith)))
 
 returns-4 : tie.Need-returns-4
-returns-4 c = (sym (fault-surplus _ _ _ _ _ _ _ (omega arith) (c .before .before .before .before .before .if2 .left) (seen (c .before .before .before) (c .before .before .if3 .left)) (c .before .if4 .taken) (c .if5 .taken)), (λ z. absurd (omega arith)))
+returns-4 c =
+    let else2 = c .before .before .before .before .before in
+    (sym (fault-surplus _ _ _ _ _ _ _ (omega arith) (else2 .if2 .left) (seen (c .before .before .before) (c .before .before .if3 .left)) (c .before .if4 .taken) (c .if5 .taken)), (λ z. absurd (omega arith)))
 
 returns-5 : tie.Need-returns-5
-returns-5 c = (sym (fault-literals _ _ _ _ _ _ _ (omega arith) (c .before .before .before .before .before .if2 .left) (seen (c .before .before .before) (c .before .before .if3 .left)) (wanted (c .before)) (c .if6 .taken)), (λ z. absurd (omega arith)))
+returns-5 c =
+    let else2 = c .before .before .before .before .before in
+    (sym (fault-literals _ _ _ _ _ _ _ (omega arith) (else2 .if2 .left) (seen (c .before .before .before) (c .before .before .if3 .left)) (wanted (c .before)) (c .if6 .taken)), (λ z. absurd (omega arith)))
 
 returns-6 : tie.Need-returns-6
-returns-6 c = (
-  sym (fault-none _ _ _ _ _ _ _ (omega arith) (c .before .before .before .before .before .if2 .left) (seen (c .before .before .before) (c .before .before .if3 .left)) (wanted (c .before)) (c .if6 .left)),
-  λ z. c .before .before .before .mark .ensures .1 ∙ ap (λ (v : ℕ). set (c .before .before .before .before .before .before .before .before .before .args .marks .now) v (c .before .before .before .before .before .before .before .before .before .args .at .closed + 1)) (c .before .before .before .before .before .before .before .wide .ensures .0),
-)
+returns-6 c =
+    let after-mark = c .before .before .before in
+    let after-wide = after-mark .before .before .before .before in
+    let entry = after-wide .before .before in (
+      sym (fault-none _ _ _ _ _ _ _ (omega arith) (after-mark .before .before .if2 .left) (seen after-mark (c .before .before .if3 .left)) (wanted (c .before)) (c .if6 .left)),
+      λ z. after-mark .mark .ensures .1 ∙ ap (λ (v : ℕ). set (entry .args .marks .now) v (entry .args .at .closed + 1)) (after-wide .wide .ensures .0),
+    )
 
 pub literal-fault-spec : {M : Type 1} → statement M
 literal-fault-spec =

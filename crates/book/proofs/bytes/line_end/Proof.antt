@@ -22,7 +22,9 @@ shared-slice-read-if1 c = search needs
 
 returns : tie.Need-returns Inv-loop μ-loop
 unfolding lineEnd
-returns c = running-stop lineEnd (c .before .before .before .before .args .text .now) (c .before .before .before .before .args .at) (c .before .before .before .loop .i) (c .before .before .before .loop .inv) (search needs) (eq-eqb _ _ (c .if1 .taken))
+returns c =
+    let at-loop = c .before .before .before in
+    running-stop lineEnd (at-loop .before .args .text .now) (at-loop .before .args .at) (at-loop .loop .i) (at-loop .loop .inv) (search needs) (eq-eqb _ _ (c .if1 .taken))
 
 add-i : tie.Need-add-i Inv-loop μ-loop
 add-i c = search needs
@@ -32,10 +34,14 @@ loop-less c = search needs
 
 loop-again : tie.Need-loop-again Inv-loop μ-loop
 unfolding lineEnd
-loop-again c = running-step lineEnd (c .before .before .before .before .args .text .now) (c .before .before .before .before .args .at) (c .before .before .before .loop .i) (c .before .before .before .loop .inv) (search needs) (ne-eqb _ _ (c .if1 .left))
+loop-again c =
+    let at-loop = c .before .before .before in
+    running-step lineEnd (at-loop .before .args .text .now) (at-loop .before .args .at) (at-loop .loop .i) (at-loop .loop .inv) (search needs) (ne-eqb _ _ (c .if1 .left))
 
 returns-2 : tie.Need-returns-2 Inv-loop μ-loop
-returns-2 c = running-end lineEnd (c .before .before .args .text .now) (c .before .before .args .at) (c .before .loop .i) (c .before .loop .inv) (search needs)
+returns-2 c =
+    let entry = c .before .before in
+    running-end lineEnd (entry .args .text .now) (entry .args .at) (c .before .loop .i) (c .before .loop .inv) (search needs)
 
 pub line-end-spec : {M : Type 1} → statement M
 line-end-spec =

@@ -31,17 +31,26 @@ wide-requires c κs = tt
 
 returns-3 : tie.Need-returns-3 Inv-loop μ-loop
 returns-3 c =
-    not-a-digit (c .before .before .before .before .loop .inv) (search needs) (digit-low _ (omega arith))
+    let at-loop = c .before .before .before .before in
+    not-a-digit (at-loop .loop .inv) (search needs) (digit-low _ (omega arith))
 
 returns-4 : tie.Need-returns-4 Inv-loop μ-loop
 returns-4 c =
-    not-a-digit (c .before .before .before .before .before .loop .inv) (search needs) (digit-high _ (omega arith))
+    let at-loop = c .before .before .before .before .before in
+    not-a-digit (at-loop .loop .inv) (search needs) (digit-high _ (omega arith))
+
+abbrev at-loop-of-else4 : tie.Else4 Inv-loop μ-loop → tie.At-loop Inv-loop μ-loop
+at-loop-of-else4 c = c .before .before .before .before .before
 
 mul-value : tie.Need-mul-value Inv-loop μ-loop
-mul-value c = omega (arith, value-small (c .before .before .before .before .before .loop .inv) (omega arith))
+mul-value c =
+    let at-loop = at-loop-of-else4 c in
+    omega (arith, value-small (at-loop .loop .inv) (omega arith))
 
 add-value : tie.Need-add-value Inv-loop μ-loop
-add-value c = omega (arith, value-small (c .before .before .before .before .before .loop .inv) (omega arith))
+add-value c =
+    let at-loop = at-loop-of-else4 c in
+    omega (arith, value-small (at-loop .loop .inv) (omega arith))
 
 add-i : tie.Need-add-i Inv-loop μ-loop
 add-i c = search needs
@@ -51,8 +60,9 @@ loop-less c = search needs
 
 loop-again : tie.Need-loop-again Inv-loop μ-loop
 loop-again c =
+    let at-loop = at-loop-of-else4 c in
     rw (c .before .before .wide .ensures)
-    (digits-step (c .before .before .before .before .before .loop .inv) (search needs) (omega arith) (omega arith))
+    (digits-step (at-loop .loop .inv) (search needs) (omega arith) (omega arith))
 
 returns-5 : tie.Need-returns-5 Inv-loop μ-loop
 returns-5 c =

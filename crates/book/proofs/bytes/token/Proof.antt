@@ -11,8 +11,12 @@ use Rattle.book.proofs.bytes.token.Statement.{statement}
 use Rattle.book.proofs.bytes.token.Tie as tie
 
 -- the answer of `number`, said of the word behind its sign
-digits-signed : (c : tie.After-number) {d : Digits} → c .number .result ≡ d → d ≡ digitsOf (drop 1 (c .before .before .before .before .before .before .args .word .now))
-digits-signed c e = digits-behind 1 (c .before .before .before .before .before .before .args .word .now) _ (sym e ∙ c .number .ensures)
+digits-signed : (c : tie.After-number) {d : Digits} →
+    let entry = c .before .before .before .before .before .before in
+    c .number .result ≡ d → d ≡ digitsOf (drop 1 (entry .args .word .now))
+digits-signed c e =
+    let entry = c .before .before .before .before .before .before in
+    digits-behind 1 (entry .args .word .now) _ (sym e ∙ c .number .ensures)
 
 returns : tie.Need-returns
 returns c = sym (token-empty _ (c .if1 .taken))
@@ -38,11 +42,18 @@ enum-told c = search needs
 enum-known-variable : tie.Need-enum-known-variable
 enum-known-variable c = search needs
 
+abbrev after-number-of-else3 : tie.Else3 → tie.After-number
+after-number-of-else3 c = c .before .before .before .before
+
 mul-t17 : tie.Need-mul-t17
-mul-t17 c = omega (arith, value-below _ _ (digits-signed (c .before .before .before .before) (c .before .before .variable .given .1)))
+mul-t17 c =
+    let after-number = after-number-of-else3 c in
+    omega (arith, value-below _ _ (digits-signed after-number (c .before .before .variable .given .1)))
 
 add-t18 : tie.Need-add-t18
-add-t18 c = omega (arith, value-below _ _ (digits-signed (c .before .before .before .before) (c .before .before .variable .given .1)))
+add-t18 c =
+    let after-number = after-number-of-else3 c in
+    omega (arith, value-below _ _ (digits-signed after-number (c .before .before .variable .given .1)))
 
 number-requires-2 : tie.Need-number-requires-2
 number-requires-2 c κs = search needs
@@ -54,25 +65,37 @@ enum-known-variable-2 : tie.Need-enum-known-variable-2
 enum-known-variable-2 c = search needs
 
 mul-t23 : tie.Need-mul-t23
-mul-t23 c = omega (arith, value-below _ _ (sym (c .before .before .variable2 .given .1) ∙ c .before .before .before .before .number2 .ensures))
+mul-t23 c =
+    let after-number2 = c .before .before .before .before in
+    omega (arith, value-below _ _ (sym (c .before .before .variable2 .given .1) ∙ after-number2 .number2 .ensures))
 
 returns-2 : tie.Need-returns-2
-returns-2 c = sym (token-signed _ (omega arith) (c .before .before .before .before .if2 .taken) ∙ not-digits _ (digits-signed (c .before .before) (c .enum-told .given .1)) .0)
+returns-2 c =
+    let then2 = c .before .before .before .before in
+    sym (token-signed _ (omega arith) (then2 .if2 .taken) ∙ not-digits _ (digits-signed (c .before .before) (c .enum-told .given .1)) .0)
 
 returns-3 : tie.Need-returns-3
-returns-3 c = sym (token-signed _ (omega arith) (c .before .before .before .before .before .before .if2 .taken) ∙ zero-digits _ _ (digits-signed (c .before .before .before .before) (c .before .before .variable .given .1)) (c .if3 .taken) .0)
+returns-3 c =
+    let after-number = c .before .before .before .before in
+    sym (token-signed _ (omega arith) (after-number .before .before .if2 .taken) ∙ zero-digits _ _ (digits-signed after-number (c .before .before .variable .given .1)) (c .if3 .taken) .0)
 
 returns-4 : tie.Need-returns-4
-returns-4 c = sym (token-signed _ (omega arith) (c .before .before .before .before .before .before .if2 .taken) ∙ some-digits _ _ (digits-signed (c .before .before .before .before) (c .before .before .variable .given .1)) (c .if3 .left) .0)
+returns-4 c =
+    let after-number = after-number-of-else3 c in
+    sym (token-signed _ (omega arith) (after-number .before .before .if2 .taken) ∙ some-digits _ _ (digits-signed after-number (c .before .before .variable .given .1)) (c .if3 .left) .0)
 
 returns-5 : tie.Need-returns-5
 returns-5 c = sym (token-unsigned _ (omega arith) (c .before .before .before .if2 .left) ∙ not-digits _ (sym (c .enum-told2 .given .1) ∙ c .before .before .number2 .ensures) .1)
 
 returns-6 : tie.Need-returns-6
-returns-6 c = sym (token-unsigned _ (omega arith) (c .before .before .before .before .before .if2 .left) ∙ zero-digits _ _ (sym (c .before .before .variable2 .given .1) ∙ c .before .before .before .before .number2 .ensures) (c .if4 .taken) .1)
+returns-6 c =
+    let after-number2 = c .before .before .before .before in
+    sym (token-unsigned _ (omega arith) (after-number2 .before .if2 .left) ∙ zero-digits _ _ (sym (c .before .before .variable2 .given .1) ∙ after-number2 .number2 .ensures) (c .if4 .taken) .1)
 
 returns-7 : tie.Need-returns-7
-returns-7 c = sym (token-unsigned _ (omega arith) (c .before .before .before .before .before .if2 .left) ∙ some-digits _ _ (sym (c .before .before .variable2 .given .1) ∙ c .before .before .before .before .number2 .ensures) (c .if4 .left) .1)
+returns-7 c =
+    let after-number2 = c .before .before .before .before in
+    sym (token-unsigned _ (omega arith) (after-number2 .before .if2 .left) ∙ some-digits _ _ (sym (c .before .before .variable2 .given .1) ∙ after-number2 .number2 .ensures) (c .if4 .left) .1)
 
 pub token-spec : {M : Type 1} → statement M
 token-spec =

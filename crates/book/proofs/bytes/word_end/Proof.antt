@@ -24,7 +24,10 @@ is-blank-requires : tie.Need-is-blank-requires Inv-loop μ-loop
 is-blank-requires c κs = tt
 
 returns : tie.Need-returns Inv-loop μ-loop
-returns c = running-stop blank (c .before .before .before .before .before .before .args .text .now) (c .before .before .before .before .before .before .args .at) (c .before .before .before .before .loop .i) (c .before .before .before .before .loop .inv) (search needs) (sym (c .before .is-blank .ensures) ∙ c .if1 .taken)
+returns c =
+    let at-loop = c .before .before .before .before in
+    let entry = at-loop .before .before in
+    running-stop blank (entry .args .text .now) (entry .args .at) (at-loop .loop .i) (at-loop .loop .inv) (search needs) (sym (c .before .is-blank .ensures) ∙ c .if1 .taken)
 
 add-i : tie.Need-add-i Inv-loop μ-loop
 add-i c = search needs
@@ -33,10 +36,15 @@ loop-less : tie.Need-loop-less Inv-loop μ-loop
 loop-less c = search needs
 
 loop-again : tie.Need-loop-again Inv-loop μ-loop
-loop-again c = running-step blank (c .before .before .before .before .before .before .args .text .now) (c .before .before .before .before .before .before .args .at) (c .before .before .before .before .loop .i) (c .before .before .before .before .loop .inv) (search needs) (sym (c .before .is-blank .ensures) ∙ c .if1 .left)
+loop-again c =
+    let at-loop = c .before .before .before .before in
+    let entry = at-loop .before .before in
+    running-step blank (entry .args .text .now) (entry .args .at) (at-loop .loop .i) (at-loop .loop .inv) (search needs) (sym (c .before .is-blank .ensures) ∙ c .if1 .left)
 
 returns-2 : tie.Need-returns-2 Inv-loop μ-loop
-returns-2 c = running-end blank (c .before .before .before .args .text .now) (c .before .before .before .args .at) (c .before .loop .i) (c .before .loop .inv) (search needs)
+returns-2 c =
+    let entry = c .before .before .before in
+    running-end blank (entry .args .text .now) (entry .args .at) (c .before .loop .i) (c .before .loop .inv) (search needs)
 
 pub word-end-spec : {M : Type 1} → statement M
 word-end-spec =

@@ -31,13 +31,17 @@ loop-less : tie.Need-loop-less Inv-loop μ-loop
 loop-less c = omega arith
 
 loop-again : tie.Need-loop-again Inv-loop μ-loop
-loop-again c = gap-line _ _ _ _ (c .before .before .before .before .loop .inv) (search needs) (c .before .if1 .taken) (c .line-start .ensures)
+loop-again c =
+    let at-loop = c .before .before .before .before in
+    gap-line _ _ _ _ (at-loop .loop .inv) (search needs) (c .before .if1 .taken) (c .line-start .ensures)
 
 is-blank-requires : tie.Need-is-blank-requires Inv-loop μ-loop
 is-blank-requires c κs = tt
 
 returns : tie.Need-returns Inv-loop μ-loop
-returns c = gap-ends _ _ _ (c .before .before .before .before .before .loop .inv) (sym (c .before .is-blank .ensures) ∙ not-true _ (c .if2 .taken))
+returns c =
+    let at-loop = c .before .before .before .before .before in
+    gap-ends _ _ _ (at-loop .loop .inv) (sym (c .before .is-blank .ensures) ∙ not-true _ (c .if2 .taken))
 
 add-i : tie.Need-add-i Inv-loop μ-loop
 add-i c = search needs
@@ -46,7 +50,9 @@ loop-less-2 : tie.Need-loop-less-2 Inv-loop μ-loop
 loop-less-2 c = search needs
 
 loop-again-2 : tie.Need-loop-again-2 Inv-loop μ-loop
-loop-again-2 c = gap-blank _ _ _ (c .before .before .before .before .before .loop .inv) (search needs) (c .before .before .if1 .left) (sym (c .before .is-blank .ensures) ∙ not-false _ (c .if2 .left))
+loop-again-2 c =
+    let at-loop = c .before .before .before .before .before in
+    gap-blank _ _ _ (at-loop .loop .inv) (search needs) (c .before .before .if1 .left) (sym (c .before .is-blank .ensures) ∙ not-false _ (c .if2 .left))
 
 returns-2 : tie.Need-returns-2 Inv-loop μ-loop
 returns-2 c = gap-ends-last _ _ _ (c .before .loop .inv) (search needs)

@@ -25,10 +25,15 @@ next-line-requires : tie.Need-next-line-requires Inv-loop μ-loop
 next-line-requires c κs = search needs
 
 loop-less : tie.Need-loop-less Inv-loop μ-loop
-loop-less c = rw (c .next-line .ensures) (line-falls (c .before .before .before .before .before .before .args .text .now) (c .before .before .before .before .before .before .args .at) (c .before .before .before .before .loop .i) (search needs))
+loop-less c =
+    let at-loop = c .before .before .before .before in
+    let entry = at-loop .before .before in
+    rw (c .next-line .ensures) (line-falls (entry .args .text .now) (entry .args .at) (at-loop .loop .i) (search needs))
 
 loop-again : tie.Need-loop-again Inv-loop μ-loop
-loop-again c = rw (c .next-line .ensures) (skipped-line _ _ _ (c .before .before .before .before .loop .inv) (search needs) (c .before .if1 .left))
+loop-again c =
+    let at-loop = c .before .before .before .before in
+    rw (c .next-line .ensures) (skipped-line _ _ _ (at-loop .loop .inv) (search needs) (c .before .if1 .left))
 
 returns-2 : tie.Need-returns-2 Inv-loop μ-loop
 returns-2 c = line-starts-last _ _ _ (c .before .loop .inv) (search needs)

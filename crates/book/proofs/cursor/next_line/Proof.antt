@@ -14,11 +14,13 @@ add-result c = search needs
 
 returns : tie.Need-returns
 returns c =
-    omega (arith, c .before .line-end .ensures, line-closed (drop (c .before .before .before .args .at) (c .before .before .before .args .text .now)) (omega (arith, length-drop (c .before .before .before .args .at) (c .before .before .before .args .text .now), c .before .line-end .ensures)))
+    let entry = c .before .before .before in
+    omega (arith, c .before .line-end .ensures, line-closed (drop (entry .args .at) (entry .args .text .now)) (omega (arith, length-drop (entry .args .at) (entry .args .text .now), c .before .line-end .ensures)))
 
 returns-2 : tie.Need-returns-2
 returns-2 c =
-    omega (arith, c .before .line-end .ensures, line-open (drop (c .before .before .before .args .at) (c .before .before .before .args .text .now)) (omega (arith, length-drop (c .before .before .before .args .at) (c .before .before .before .args .text .now), c .before .line-end .ensures)))
+    let entry = c .before .before .before in
+    omega (arith, c .before .line-end .ensures, line-open (drop (entry .args .at) (entry .args .text .now)) (omega (arith, length-drop (entry .args .at) (entry .args .text .now), c .before .line-end .ensures)))
 
 pub next-line-spec : {M : Type 1} → statement M
 next-line-spec = tie.close (tie.spec line-end-requires add-result returns returns-2)

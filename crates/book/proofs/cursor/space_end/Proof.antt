@@ -27,7 +27,9 @@ is-blank-requires : tie.Need-is-blank-requires Inv-loop μ-loop
 is-blank-requires c κs = tt
 
 returns-2 : tie.Need-returns-2 Inv-loop μ-loop
-returns-2 c = space-ends-word (c .before .before .before .before .before .loop .inv) (sym (c .before .is-blank .ensures) ∙ not-true _ (c .if2 .taken))
+returns-2 c =
+    let at-loop = c .before .before .before .before .before in
+    space-ends-word (at-loop .loop .inv) (sym (c .before .is-blank .ensures) ∙ not-true _ (c .if2 .taken))
 
 add-i : tie.Need-add-i Inv-loop μ-loop
 add-i c = search needs
@@ -36,7 +38,9 @@ loop-less : tie.Need-loop-less Inv-loop μ-loop
 loop-less c = search needs
 
 loop-again : tie.Need-loop-again Inv-loop μ-loop
-loop-again c = space-blank (c .before .before .before .before .before .loop .inv) (search needs) (c .before .before .if1 .left) (sym (c .before .is-blank .ensures) ∙ not-false _ (c .if2 .left))
+loop-again c =
+    let at-loop = c .before .before .before .before .before in
+    space-blank (at-loop .loop .inv) (search needs) (c .before .before .if1 .left) (sym (c .before .is-blank .ensures) ∙ not-false _ (c .if2 .left))
 
 returns-3 : tie.Need-returns-3 Inv-loop μ-loop
 returns-3 c = space-ends-last (c .before .loop .inv) (search needs)

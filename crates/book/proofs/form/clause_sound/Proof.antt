@@ -35,10 +35,11 @@ wide-requires : tie.Need-wide-requires Inv-loop μ-loop
 wide-requires c κs = tt
 
 returns-3 : tie.Need-returns-3 Inv-loop μ-loop
-returns-3 c = (
-  sym (refuse-low _ _ (c .before .before .before .before .loop .i) (omega arith) (omega arith)),
-  c .before .before .before .before .loop .inv .2 .marked .bounded,
-)
+returns-3 c =
+    let at-loop = c .before .before .before .before in (
+      sym (refuse-low _ _ (at-loop .loop .i) (omega arith) (omega arith)),
+      at-loop .loop .inv .2 .marked .bounded,
+    )
 
 mul-if4 : tie.Need-mul-if4 Inv-loop μ-loop
 mul-if4 c = omega arith
@@ -47,27 +48,30 @@ add-if4 : tie.Need-add-if4 Inv-loop μ-loop
 add-if4 c = omega arith
 
 returns-4 : tie.Need-returns-4 Inv-loop μ-loop
-returns-4 c = (
-  sym (refuse-high _ _ (c .before .before .before .before .before .loop .i) (omega arith) (omega arith)),
-  c .before .before .before .before .before .loop .inv .2 .marked .bounded,
-)
+returns-4 c =
+    let at-loop = c .before .before .before .before .before in (
+      sym (refuse-high _ _ (at-loop .loop .i) (omega arith) (omega arith)),
+      at-loop .loop .inv .2 .marked .bounded,
+    )
 
 mark-requires : tie.Need-mark-requires Inv-loop μ-loop
 mark-requires c κs = omega arith
 
 returns-5 : tie.Need-returns-5 Inv-loop μ-loop
-returns-5 c = (
-  sym
-      (refuse-repeated _ _ _ _ _
-      (c .before .before .before .before .before .wide .result)
-      (c .before .before .before .before .before .before .before .before .loop .inv .2)
-      (omega arith)
-      (c .before .before .before .before .before .wide .ensures .0)
-      (omega arith)
-      (sym (c .before .mark .ensures .0) ∙ c .if5 .taken)),
-  rw (c .before .mark .ensures .1)
-      (marked-more _ _ _ (c .before .before .before .before .before .wide .result / 2) (omega arith) (c .before .before .before .before .before .before .before .before .loop .inv .2 .marked) .bounded),
-)
+returns-5 c =
+    let after-wide = c .before .before .before .before .before in
+    let at-loop = after-wide .before .before .before in (
+      sym
+          (refuse-repeated _ _ _ _ _
+          (after-wide .wide .result)
+          (at-loop .loop .inv .2)
+          (omega arith)
+          (after-wide .wide .ensures .0)
+          (omega arith)
+          (sym (c .before .mark .ensures .0) ∙ c .if5 .taken)),
+      rw (c .before .mark .ensures .1)
+          (marked-more _ _ _ (after-wide .wide .result / 2) (omega arith) (at-loop .loop .inv .2 .marked) .bounded),
+    )
 
 add-i : tie.Need-add-i Inv-loop μ-loop
 add-i c = omega arith
@@ -76,20 +80,21 @@ loop-less : tie.Need-loop-less Inv-loop μ-loop
 loop-less c = omega arith
 
 loop-again : tie.Need-loop-again Inv-loop μ-loop
-loop-again c = (
-  omega arith,
-  omega arith,
-  rw (c .before .mark .ensures .1)
-      (passed-more _ _ _ _ _
-      (c .before .before .before .before .before .wide .result)
-      (c .before .before .before .before .before .before .before .before .loop .inv .2)
-      (omega arith)
-      (c .before .before .before .before .before .wide .ensures .0)
-      (omega arith)
-      (omega arith)
-      (omega arith)
-      (sym (c .before .mark .ensures .0) ∙ c .if5 .left)),
-)
+loop-again c =
+    let after-wide = c .before .before .before .before .before in (
+      omega arith,
+      omega arith,
+      rw (c .before .mark .ensures .1)
+          (passed-more _ _ _ _ _
+          (after-wide .wide .result)
+          (after-wide .before .before .before .loop .inv .2)
+          (omega arith)
+          (after-wide .wide .ensures .0)
+          (omega arith)
+          (omega arith)
+          (omega arith)
+          (sym (c .before .mark .ensures .0) ∙ c .if5 .left)),
+    )
 
 returns-6 : tie.Need-returns-6 Inv-loop μ-loop
 returns-6 c = (

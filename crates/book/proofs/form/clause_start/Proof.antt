@@ -27,8 +27,9 @@ returns c = search needs
 
 returns-2 : tie.Need-returns-2
 returns-2 c =
-    let none : getD (c .before .before .before .args .book .now) (3 + c .before .before .before .args .c) 0 ≡ 0 =
-    List·getD-eq-default (c .before .before .before .args .book .now) 0 (omega arith) in
+    let entry = c .before .before .before in
+    let none : getD (entry .args .book .now) (3 + entry .args .c) 0 ≡ 0 =
+    List·getD-eq-default (entry .args .book .now) 0 (omega arith) in
     omega arith
 
 pub clause-start-spec : {M : Type 1} → statement M

@@ -88,20 +88,25 @@ begins : (c : tie.After-wide2 Inv-loop μ-loop)
     ≡ clauseStart (book-of c) (clause-of c)
 begins c = omega arith
 
+abbrev entry-of-after-wide2 : tie.After-wide2 Inv-loop μ-loop → tie.Start Inv-loop μ-loop
+entry-of-after-wide2 c = c .before .before .before .before .before .before .before
+
 ends : (c : tie.After-wide2 Inv-loop μ-loop)
     → clauses-of c + 4 + c .wide2 .result
     ≡ clauseStart (book-of c) (clause-of c + 1)
 ends c =
+    let entry = entry-of-after-wide2 c in
     let same : 4 + clause-of c ≡ 3 + (clause-of c + 1) = omega arith in
     let read = c .wide2 .ensures .0 ∙ ap (λ (i : ℕ). getD (book-of c) i 0) same in
-    omega (arith, read, c .before .before .before .before .before .before .before .pre .1)
+    omega (arith, read, entry .pre .1)
 
 -- the clause lies within the book
 inside : (c : tie.After-wide2 Inv-loop μ-loop)
     → (c .before .before .wide .result ≤ c .wide2 .result)
     × (clauses-of c + 4 + c .wide2 .result ≤ length (book-of c))
 inside c =
-    let bounds = clause-inside _ (c .before .before .before .before .before .before .before .pre .0) (clause-of c) _ _ (omega arith) (begins c) (ends c) in
+    let entry = entry-of-after-wide2 c in
+    let bounds = clause-inside _ (entry .pre .0) (clause-of c) _ _ (omega arith) (begins c) (ends c) in
     (omega (arith, bounds), bounds .1)
 
 mul-clause-sound : tie.Need-mul-clause-sound Inv-loop μ-loop
@@ -118,29 +123,36 @@ part-clause-sound-end c = omega (arith, inside c)
 
 clause-sound-requires : tie.Need-clause-sound-requires Inv-loop μ-loop
 clause-sound-requires c κs =
-    (omega arith, marked-none _ (c .before .before .before .before .before .before .before .loop .tag) _ (omega arith) (c .before .before .before .before .before .before .before .loop .inv .2))
+    let at-loop = c .before .before .before .before .before .before .before in
+    (omega arith, marked-none _ (at-loop .loop .tag) _ (omega arith) (at-loop .loop .inv .2))
 
 -- the answer is the clause's
-clause-answer : (c : tie.After-clause-sound Inv-loop μ-loop)
-    → c .clause-sound .result
-    ≡ soundClause (c .before .before .before .before .before .before .before .before .before .before .args .variables) (clauseAt (book-of (c .before .before .before)) (clause-of (c .before .before .before)))
+clause-answer : (c : tie.After-clause-sound Inv-loop μ-loop) →
+    let after-wide2 = c .before .before .before in
+    let entry = entry-of-after-wide2 after-wide2 in
+    c .clause-sound .result
+    ≡ soundClause (entry .args .variables) (clauseAt (book-of after-wide2) (clause-of after-wide2))
 clause-answer c =
+    let after-wide2 = c .before .before .before in
+    let entry = entry-of-after-wide2 after-wide2 in
     c .clause-sound .ensures .0
     ∙ ap
-    (soundClause (c .before .before .before .before .before .before .before .before .before .before .args .variables))
-    (clause-between _ (clause-of (c .before .before .before)) _ _ (begins (c .before .before .before)) (ends (c .before .before .before)))
+    (soundClause (entry .args .variables))
+    (clause-between _ (clause-of after-wide2) _ _ (begins after-wide2) (ends after-wide2))
 
 returns : tie.Need-returns Inv-loop μ-loop
 returns c =
+    let after-wide2 = c .before .before .before .before in
+    let at-loop = after-wide2 .before .before .before .before .before in
     sym
     (clauses-stop
-    (book-of (c .before .before .before .before))
-    (clause-of (c .before .before .before .before))
-    (clauses-of (c .before .before .before .before))
-    (c .before .before .before .before .before .before .before .before .before .before .before .args .variables)
+    (book-of after-wide2)
+    (clause-of after-wide2)
+    (clauses-of after-wide2)
+    (at-loop .before .before .args .variables)
     (omega arith)
     (sym (clause-answer (c .before)) ∙ not-true _ (c .if1 .taken)))
-    ∙ c .before .before .before .before .before .before .before .before .before .loop .inv .3
+    ∙ at-loop .loop .inv .3
 
 add-c : tie.Need-add-c Inv-loop μ-loop
 add-c c = omega arith
@@ -149,29 +161,32 @@ loop-less : tie.Need-loop-less Inv-loop μ-loop
 loop-less c = omega arith
 
 loop-again : tie.Need-loop-again Inv-loop μ-loop
-loop-again c = (
-  omega arith,
-  omega arith,
-  c .before .clause-sound .ensures .1,
-  sym
-      (clauses-more
-      (book-of (c .before .before .before .before))
-      (clause-of (c .before .before .before .before))
-      (clauses-of (c .before .before .before .before))
-      (c .before .before .before .before .before .before .before .before .before .before .before .args .variables)
-      (omega arith)
-      (sym (clause-answer (c .before)) ∙ not-false _ (c .if1 .left)))
-      ∙ c .before .before .before .before .before .before .before .before .before .loop .inv .3,
-)
+loop-again c =
+    let after-wide2 = c .before .before .before .before in
+    let at-loop = after-wide2 .before .before .before .before .before in (
+      omega arith,
+      omega arith,
+      c .before .clause-sound .ensures .1,
+      sym
+          (clauses-more
+          (book-of after-wide2)
+          (clause-of after-wide2)
+          (clauses-of after-wide2)
+          (at-loop .before .before .args .variables)
+          (omega arith)
+          (sym (clause-answer (c .before)) ∙ not-false _ (c .if1 .left)))
+          ∙ at-loop .loop .inv .3,
+    )
 
 returns-2 : tie.Need-returns-2 Inv-loop μ-loop
 returns-2 c =
+    let entry = c .before .before .before in
     sym
     (clauses-end
-    (c .before .before .before .args .book .now)
+    (entry .args .book .now)
     (c .before .loop .c)
-    (c .before .before .before .args .clauses)
-    (c .before .before .before .args .variables)
+    (entry .args .clauses)
+    (entry .args .variables)
     (omega arith))
     ∙ c .before .loop .inv .3
 

@@ -39,14 +39,15 @@ shared-slice-read-if1-2 c = omega arith
 
 returns : tie.Need-returns Inv-loop μ-loop
 returns c =
+    let at-loop = c .before .before .before .before in
     sym
     (rising-stop
-    (c .before .before .before .before .before .args .book .now)
-    (c .before .before .before .before .loop .c)
-    (c .before .before .before .before .before .args .clauses)
+    (at-loop .before .args .book .now)
+    (at-loop .loop .c)
+    (at-loop .before .args .clauses)
     (omega arith)
     (omega arith))
-    ∙ c .before .before .before .before .loop .inv .1
+    ∙ at-loop .loop .inv .1
 
 add-c : tie.Need-add-c Inv-loop μ-loop
 add-c c = omega arith
@@ -55,21 +56,23 @@ loop-less : tie.Need-loop-less Inv-loop μ-loop
 loop-less c = omega arith
 
 loop-again : tie.Need-loop-again Inv-loop μ-loop
-loop-again c = (
-  omega arith,
-  sym
-      (rising-more
-      (c .before .before .before .before .before .args .book .now)
-      (c .before .before .before .before .loop .c)
-      (c .before .before .before .before .before .args .clauses)
-      (omega arith)
-      (omega arith))
-      ∙ c .before .before .before .before .loop .inv .1,
-)
+loop-again c =
+    let at-loop = c .before .before .before .before in (
+      omega arith,
+      sym
+          (rising-more
+          (at-loop .before .args .book .now)
+          (at-loop .loop .c)
+          (at-loop .before .args .clauses)
+          (omega arith)
+          (omega arith))
+          ∙ at-loop .loop .inv .1,
+    )
 
 returns-2 : tie.Need-returns-2 Inv-loop μ-loop
 returns-2 c =
-    sym (rising-end (c .before .before .args .book .now) (c .before .loop .c) (c .before .before .args .clauses) (omega arith))
+    let entry = c .before .before in
+    sym (rising-end (entry .args .book .now) (c .before .loop .c) (entry .args .clauses) (omega arith))
     ∙ c .before .loop .inv .1
 
 pub starts-rise-spec : {M : Type 1} → statement M

@@ -41,18 +41,21 @@ last-start : (c : tie.After-number-at5)
     (entry c)
     (clausesOf (entry c))
 last-start c =
+    let after-number-at2 = c .before .before .before .before .before in
     c .number-at5 .ensures .0
-    ∙ ap (λ k. getD (entry c) (3 + k) 0) (c .before .before .before .before .before .number-at2 .ensures .0)
+    ∙ ap (λ k. getD (entry c) (3 + k) 0) (after-number-at2 .number-at2 .ensures .0)
 
-starts-answer : (c : tie.After-starts-rise)
-    → c .starts-rise .result
+starts-answer : (c : tie.After-starts-rise) →
+    let after-number-at5 = c .before .before in
+    c .starts-rise .result
     ≡ rising
-    (entry (c .before .before))
+    (entry after-number-at5)
     0
-    (clausesOf (entry (c .before .before)))
+    (clausesOf (entry after-number-at5))
 starts-answer c =
+    let after-number-at2 = c .before .before .before .before .before .before .before in
     c .starts-rise .ensures
-    ∙ ap (rising (entry (c .before .before)) 0) (c .before .before .before .before .before .before .before .number-at2 .ensures .0)
+    ∙ ap (rising (entry (c .before .before)) 0) (after-number-at2 .number-at2 .ensures .0)
 
 -- behind the tests of the starts
 numbers-parted : (c : tie.Else4)
@@ -66,8 +69,9 @@ numbers-parted c =
     }
 
 -- behind the tests of V, C and L
-numbers-limited : (c : tie.Else8)
-    → Limited (entry (c .before .before .before .before .before .before .before))
+numbers-limited : (c : tie.Else8) →
+    let after-number-at5 = c .before .before .before .before .before .before .before in
+    Limited (entry after-number-at5)
 numbers-limited c = omega arith
 
 returns : tie.Need-returns
@@ -109,17 +113,21 @@ returns-8 : tie.Need-returns-8
 returns-8 c = sym (not-well-formed _ (λ parted limited. omega arith))
 
 clauses-sound-requires : tie.Need-clauses-sound-requires
-clauses-sound-requires c κs = (numbers-parted (c .before .before .before .before), (omega arith, (omega arith, omega arith)))
+clauses-sound-requires c κs =
+    let else4 = c .before .before .before .before in
+    (numbers-parted else4, (omega arith, (omega arith, omega arith)))
 
 returns-9 : tie.Need-returns-9
 returns-9 c =
+    let else4 = c .before .before .before .before .before in
+    let after-number-at2 = else4 .before .before .before .before .before .before .before .before in
     c .clauses-sound .ensures
     ∙ ap₂
     (λ v n.
-    all (soundClause v) (clausesFrom (entry (c .before .before .before .before .before .before .before .before)) 0 n))
-    (c .before .before .before .before .before .before .before .before .before .before .before .before .before .before .number-at .ensures .0)
-    (c .before .before .before .before .before .before .before .before .before .before .before .before .before .number-at2 .ensures .0)
-    ∙ sym (clauses-decide _ (numbers-parted (c .before .before .before .before .before)) (numbers-limited (c .before)))
+    all (soundClause v) (clausesFrom (entry (else4 .before .before .before)) 0 n))
+    (after-number-at2 .before .number-at .ensures .0)
+    (after-number-at2 .number-at2 .ensures .0)
+    ∙ sym (clauses-decide _ (numbers-parted else4) (numbers-limited (c .before)))
 
 pub well-formed-spec : {M : Type 1} → statement M
 well-formed-spec =

@@ -26,7 +26,10 @@ shared-slice-read-if2-2 : tie.Need-shared-slice-read-if2-2 Inv-loop μ-loop
 shared-slice-read-if2-2 c = search needs
 
 returns-2 : tie.Need-returns-2 Inv-loop μ-loop
-returns-2 c = alike-not (c .before .before .before .before .before .before .args .a .now) (c .before .before .before .before .before .before .args .b .now) (c .before .before .before .before .before .if1 .left) (c .before .before .before .before .loop .i) (c .before .before .before .before .loop .inv) (search needs) (c .if2 .taken)
+returns-2 c =
+    let at-loop = c .before .before .before .before in
+    let entry = at-loop .before .before in
+    alike-not (entry .args .a .now) (entry .args .b .now) (at-loop .before .if1 .left) (at-loop .loop .i) (at-loop .loop .inv) (search needs) (c .if2 .taken)
 
 add-i : tie.Need-add-i Inv-loop μ-loop
 add-i c = search needs
@@ -35,10 +38,15 @@ loop-less : tie.Need-loop-less Inv-loop μ-loop
 loop-less c = search needs
 
 loop-again : tie.Need-loop-again Inv-loop μ-loop
-loop-again c = alike-more (c .before .before .before .before .before .before .args .a .now) (c .before .before .before .before .before .before .args .b .now) (c .before .before .before .before .before .if1 .left) (c .before .before .before .before .loop .i) (c .before .before .before .before .loop .inv) (search needs) (c .if2 .left)
+loop-again c =
+    let at-loop = c .before .before .before .before in
+    let entry = at-loop .before .before in
+    alike-more (entry .args .a .now) (entry .args .b .now) (at-loop .before .if1 .left) (at-loop .loop .i) (at-loop .loop .inv) (search needs) (c .if2 .left)
 
 returns-3 : tie.Need-returns-3 Inv-loop μ-loop
-returns-3 c = alike-all (c .before .before .before .args .a .now) (c .before .before .before .args .b .now) (c .before .before .if1 .left) (c .before .loop .i) (c .before .loop .inv) (search needs)
+returns-3 c =
+    let entry = c .before .before .before in
+    alike-all (entry .args .a .now) (entry .args .b .now) (c .before .before .if1 .left) (c .before .loop .i) (c .before .loop .inv) (search needs)
 
 pub equal-spec : {M : Type 1} → statement M
 equal-spec =

@@ -27,52 +27,84 @@ start-of c = c .before .before .before .before .before .before .args .at
 p-says : (c : tie.After-next-keyword) {k : Keyword} → c .next-keyword .result ≡ k → KeywordSays (text-of c) (start-of c) (112 ∷ []) k
 p-says c e = subst (KeywordSays (text-of c) (start-of c) (112 ∷ [])) e (c .next-keyword .ensures)
 
-cnf-says : (c : tie.After-next-keyword2) {k : Keyword} → c .next-keyword2 .result ≡ k
-    → KeywordSays (text-of (c .before .before .before .before .before)) (c .before .before .before .behind-p .given .0 .0 .at) (99 ∷ 110 ∷ 102 ∷ []) k
+cnf-says : (c : tie.After-next-keyword2) {k : Keyword} →
+    let after-next-keyword = c .before .before .before .before .before in
+    c .next-keyword2 .result ≡ k
+    → KeywordSays (text-of after-next-keyword) (c .before .before .before .behind-p .given .0 .0 .at) (99 ∷ 110 ∷ 102 ∷ []) k
 cnf-says c e =
-    subst (KeywordSays (text-of (c .before .before .before .before .before)) (c .before .before .before .behind-p .given .0 .0 .at) (99 ∷ 110 ∷ 102 ∷ [])) e (c .next-keyword2 .ensures)
+    let after-next-keyword = c .before .before .before .before .before in
+    subst (KeywordSays (text-of after-next-keyword) (c .before .before .before .behind-p .given .0 .0 .at) (99 ∷ 110 ∷ 102 ∷ [])) e (c .next-keyword2 .ensures)
 
-variables-say : (c : tie.After-next-field) {f : Field} → c .next-field .result ≡ f
-    → FieldSays (text-of (c .before .before .before .before .before .before .before .before .before)) (c .before .before .behind-cnf .given .0 .0 .at) f
-variables-say c e = subst (FieldSays (text-of (c .before .before .before .before .before .before .before .before .before)) (c .before .before .behind-cnf .given .0 .0 .at)) e (c .next-field .ensures)
+variables-say : (c : tie.After-next-field) {f : Field} →
+    let after-next-keyword = c .before .before .before .before .before .before .before .before .before in
+    c .next-field .result ≡ f
+    → FieldSays (text-of after-next-keyword) (c .before .before .behind-cnf .given .0 .0 .at) f
+variables-say c e =
+    let after-next-keyword = c .before .before .before .before .before .before .before .before .before in
+    subst (FieldSays (text-of after-next-keyword) (c .before .before .behind-cnf .given .0 .0 .at)) e (c .next-field .ensures)
 
-clauses-say : (c : tie.After-next-field2) {f : Field} → c .next-field2 .result ≡ f
-    → FieldSays (text-of (c .before .before .before .before .before .before .before .before .before .before .before .before .before)) (c .before .before .variables .given .0 .1 .0 .at) f
+clauses-say : (c : tie.After-next-field2) {f : Field} →
+    let after-next-keyword = c .before .before .before .before .before .before .before .before .before .before .before .before .before in
+    c .next-field2 .result ≡ f
+    → FieldSays (text-of after-next-keyword) (c .before .before .variables .given .0 .1 .0 .at) f
 clauses-say c e =
-    subst (FieldSays (text-of (c .before .before .before .before .before .before .before .before .before .before .before .before .before)) (c .before .before .variables .given .0 .1 .0 .at)) e (c .next-field2 .ensures)
+    let after-next-keyword = c .before .before .before .before .before .before .before .before .before .before .before .before .before in
+    subst (FieldSays (text-of after-next-keyword) (c .before .before .variables .given .0 .1 .0 .at)) e (c .next-field2 .ensures)
 
-end-says : (c : tie.After-next-in-line) {word : LineWord} → c .next-in-line .result ≡ word
-    → SteppedInLine (text-of (c .before .before .before .before .before .before .before .before .before .before .before .before .before .before .before .before .before)) (c .before .before .clauses .given .0 .1 .0 .at) word
+end-says : (c : tie.After-next-in-line) {word : LineWord} →
+    let after-next-keyword = c .before .before .before .before .before .before .before .before .before .before .before .before .before .before .before .before .before in
+    c .next-in-line .result ≡ word
+    → SteppedInLine (text-of after-next-keyword) (c .before .before .clauses .given .0 .1 .0 .at) word
 end-says c e =
-    subst (SteppedInLine (text-of (c .before .before .before .before .before .before .before .before .before .before .before .before .before .before .before .before .before)) (c .before .before .clauses .given .0 .1 .0 .at)) e (c .next-in-line .ensures)
+    let after-next-keyword = c .before .before .before .before .before .before .before .before .before .before .before .before .before .before .before .before .before in
+    subst (SteppedInLine (text-of after-next-keyword) (c .before .before .clauses .given .0 .1 .0 .at)) e (c .next-in-line .ensures)
 
 -- the words passed so far
-p-passes : (c : tie.After-behind-p)
-    → WordPasses isP (text-of (c .before .before)) (start-of (c .before .before)) (c .behind-p .given .0 .0 .at)
+p-passes : (c : tie.After-behind-p) →
+    let after-next-keyword = c .before .before in
+    WordPasses isP (text-of after-next-keyword) (start-of after-next-keyword) (c .behind-p .given .0 .0 .at)
 p-passes c = p-says (c .before .before) (c .behind-p .given .1)
 
-cnf-passes : (c : tie.After-behind-cnf)
-    → WordPasses isCnf (text-of (c .before .before .before .before .before .before .before)) (c .before .before .before .before .before .behind-p .given .0 .0 .at) (c .behind-cnf .given .0 .0 .at)
+abbrev after-behind-p-of-after-behind-cnf : tie.After-behind-cnf → tie.After-behind-p
+after-behind-p-of-after-behind-cnf c = c .before .before .before .before .before
+
+cnf-passes : (c : tie.After-behind-cnf) →
+    let after-behind-p = after-behind-p-of-after-behind-cnf c in
+    WordPasses isCnf (text-of (after-behind-p .before .before)) (after-behind-p .behind-p .given .0 .0 .at) (c .behind-cnf .given .0 .0 .at)
 cnf-passes c = cnf-says (c .before .before) (c .behind-cnf .given .1)
 
-variables-pass : (c : tie.After-variables)
-    → (p : WordPasses unsigned (text-of (c .before .before .before .before .before .before .before .before .before .before .before)) (c .before .before .before .before .behind-cnf .given .0 .0 .at) (c .variables .given .0 .1 .0 .at))
+abbrev after-behind-cnf-of-after-variables : tie.After-variables → tie.After-behind-cnf
+after-behind-cnf-of-after-variables c = c .before .before .before .before
+
+variables-pass : (c : tie.After-variables) →
+    let after-behind-cnf = after-behind-cnf-of-after-variables c in
+    let after-next-keyword = after-behind-cnf .before .before .before .before .before .before .before in
+    (p : WordPasses unsigned (text-of after-next-keyword) (after-behind-cnf .behind-cnf .given .0 .0 .at) (c .variables .given .0 .1 .0 .at))
     × (decimal 0 (p .word) ≡ c .variables .given .0 .0)
 variables-pass c = variables-say (c .before .before) (c .variables .given .1)
 
-clauses-pass : (c : tie.After-clauses)
-    → (p : WordPasses unsigned (text-of (c .before .before .before .before .before .before .before .before .before .before .before .before .before .before .before)) (c .before .before .before .before .variables .given .0 .1 .0 .at) (c .clauses .given .0 .1 .0 .at))
+abbrev after-variables-of-after-clauses : tie.After-clauses → tie.After-variables
+after-variables-of-after-clauses c = c .before .before .before .before
+
+clauses-pass : (c : tie.After-clauses) →
+    let after-variables = after-variables-of-after-clauses c in
+    let after-next-keyword = after-variables .before .before .before .before .before .before .before .before .before .before .before in
+    (p : WordPasses unsigned (text-of after-next-keyword) (after-variables .variables .given .0 .1 .0 .at) (c .clauses .given .0 .1 .0 .at))
     × (decimal 0 (p .word) ≡ c .clauses .given .0 .0)
 clauses-pass c = clauses-say (c .before .before) (c .clauses .given .1)
 
 returns : tie.Need-returns
-returns c = malformed-first _ _ (c .before .before .pre .1) (begins-end 112 (c .before .before .args .text .now) (c .before .before .args .at) (c .if1 .taken))
+returns c =
+    let entry = c .before .before in
+    malformed-first _ _ (entry .pre .1) (begins-end 112 (entry .args .text .now) (entry .args .at) (c .if1 .taken))
 
 shared-slice-read-if2 : tie.Need-shared-slice-read-if2
 shared-slice-read-if2 c = search needs
 
 returns-2 : tie.Need-returns-2
-returns-2 c = malformed-first _ _ (c .before .before .before .before .pre .1) (begins-at 112 (c .before .before .before .before .args .text .now) (c .before .before .before .before .args .at) (omega arith) ∙ ne-eqb _ _ (c .if2 .taken))
+returns-2 c =
+    let entry = c .before .before .before .before in
+    malformed-first _ _ (entry .pre .1) (begins-at 112 (entry .args .text .now) (entry .args .at) (omega arith) ∙ ne-eqb _ _ (c .if2 .taken))
 
 slice-aggregate-next-keyword : tie.Need-slice-aggregate-next-keyword
 slice-aggregate-next-keyword c = search needs
@@ -87,7 +119,9 @@ enum-told : tie.Need-enum-told
 enum-told c = search needs
 
 returns-3 : tie.Need-returns-3
-returns-3 c = malformed-words _ _ (c .before .before .before .before .before .before .before .before .pre .1) (first-fails (p-says (c .before .before) (c .enum-told .given .1)))
+returns-3 c =
+    let entry = c .before .before .before .before .before .before .before .before in
+    malformed-words _ _ (entry .pre .1) (first-fails (p-says (c .before .before) (c .enum-told .given .1)))
 
 slice-aggregate-next-keyword-2 : tie.Need-slice-aggregate-next-keyword-2
 slice-aggregate-next-keyword-2 c = search needs
@@ -101,10 +135,15 @@ enum-known-behind-cnf c = search needs
 enum-told-2 : tie.Need-enum-told-2
 enum-told-2 c = search needs
 
+abbrev entry-of-after-behind-p : tie.After-behind-p → tie.Start
+entry-of-after-behind-p c = c .before .before .before .before .before .before .before .before
+
 returns-4 : tie.Need-returns-4
 returns-4 c =
-    malformed-words _ _ (c .before .before .before .before .before .before .before .before .before .before .before .before .before .pre .1)
-    (second-fails (p-passes (c .before .before .before .before .before)) (cnf-says (c .before .before) (c .enum-told2 .given .1)))
+    let after-behind-p = c .before .before .before .before .before in
+    let entry = entry-of-after-behind-p after-behind-p in
+    malformed-words _ _ (entry .pre .1)
+    (second-fails (p-passes after-behind-p) (cnf-says (c .before .before) (c .enum-told2 .given .1)))
 
 next-field-requires : tie.Need-next-field-requires
 next-field-requires c κs = cnf-passes (c .before) .within
@@ -117,8 +156,11 @@ enum-told-3 c = search needs
 
 returns-5 : tie.Need-returns-5
 returns-5 c =
-    malformed-words _ _ (c .before .before .before .before .before .before .before .before .before .before .before .before .before .before .before .before .before .pre .1)
-    (third-fails (p-passes (c .before .before .before .before .before .before .before .before .before)) (cnf-passes (c .before .before .before .before)) (variables-say (c .before .before) (c .enum-told3 .given .1)))
+    let after-behind-cnf = c .before .before .before .before in
+    let after-behind-p = after-behind-p-of-after-behind-cnf after-behind-cnf in
+    let entry = entry-of-after-behind-p after-behind-p in
+    malformed-words _ _ (entry .pre .1)
+    (third-fails (p-passes after-behind-p) (cnf-passes after-behind-cnf) (variables-say (c .before .before) (c .enum-told3 .given .1)))
 
 next-field-requires-2 : tie.Need-next-field-requires-2
 next-field-requires-2 c κs = variables-pass (c .before) .0 .within
@@ -131,8 +173,12 @@ enum-told-4 c = search needs
 
 returns-6 : tie.Need-returns-6
 returns-6 c =
-    malformed-words _ _ (c .before .before .before .before .before .before .before .before .before .before .before .before .before .before .before .before .before .before .before .before .before .pre .1)
-    (fourth-fails (p-passes (c .before .before .before .before .before .before .before .before .before .before .before .before .before)) (cnf-passes (c .before .before .before .before .before .before .before .before)) (variables-pass (c .before .before .before .before) .0) (clauses-say (c .before .before) (c .enum-told4 .given .1)))
+    let after-variables = c .before .before .before .before in
+    let after-behind-cnf = after-behind-cnf-of-after-variables after-variables in
+    let after-behind-p = after-behind-p-of-after-behind-cnf after-behind-cnf in
+    let entry = entry-of-after-behind-p after-behind-p in
+    malformed-words _ _ (entry .pre .1)
+    (fourth-fails (p-passes after-behind-p) (cnf-passes after-behind-cnf) (variables-pass after-variables .0) (clauses-say (c .before .before) (c .enum-told4 .given .1)))
 
 next-in-line-requires : tie.Need-next-in-line-requires
 next-in-line-requires c κs = clauses-pass (c .before) .0 .within
@@ -145,19 +191,30 @@ enum-known-next c = search needs
 
 returns-7 : tie.Need-returns-7
 returns-7 c =
-    malformed-words _ _ (c .before .before .before .before .before .before .before .before .before .before .before .before .before .before .before .before .before .before .before .before .before .before .before .before .before .pre .1)
-    (fifth-word (p-passes (c .before .before .before .before .before .before .before .before .before .before .before .before .before .before .before .before .before)) (cnf-passes (c .before .before .before .before .before .before .before .before .before .before .before .before)) (variables-pass (c .before .before .before .before .before .before .before .before) .0) (clauses-pass (c .before .before .before .before) .0) (end-says (c .before .before) (c .enum-told5 .given .1)))
+    let after-clauses = c .before .before .before .before in
+    let after-variables = after-variables-of-after-clauses after-clauses in
+    let after-behind-cnf = after-behind-cnf-of-after-variables after-variables in
+    let after-behind-p = after-behind-p-of-after-behind-cnf after-behind-cnf in
+    let entry = entry-of-after-behind-p after-behind-p in
+    malformed-words _ _ (entry .pre .1)
+    (fifth-word (p-passes after-behind-p) (cnf-passes after-behind-cnf) (variables-pass after-variables .0) (clauses-pass after-clauses .0) (end-says (c .before .before) (c .enum-told5 .given .1)))
 
 returns-8 : tie.Need-returns-8
 returns-8 c =
-    let p = p-passes (c .before .before .before .before .before .before .before .before .before .before .before .before .before .before .before .before .before .before) in
-    let cnf = cnf-passes (c .before .before .before .before .before .before .before .before .before .before .before .before .before) in
-    let variables = variables-pass (c .before .before .before .before .before .before .before .before .before) in
-    let clauses = clauses-pass (c .before .before .before .before .before) in
+    let after-clauses = c .before .before .before .before .before in
+    let after-variables = after-variables-of-after-clauses after-clauses in
+    let after-behind-cnf = after-behind-cnf-of-after-variables after-variables in
+    let after-behind-p = after-behind-p-of-after-behind-cnf after-behind-cnf in
+    let else2 = after-behind-p .before .before .before .before in
+    let entry = else2 .before .before .before .before in
+    let p = p-passes after-behind-p in
+    let cnf = cnf-passes after-behind-cnf in
+    let variables = variables-pass after-variables in
+    let clauses = clauses-pass after-clauses in
     let ends = end-says (c .before .before .before) (c .before .next .given .1) in (
       ends .within,
-      well-formed-header _ _ (c .before .before .before .before .before .before .before .before .before .before .before .before .before .before .before .before .before .before .before .before .before .before .before .before .before .before .pre .1) _ _ _
-          (begins-at 112 (c .before .before .before .before .before .before .before .before .before .before .before .before .before .before .before .before .before .before .before .before .before .before .before .before .before .before .args .text .now) (c .before .before .before .before .before .before .before .before .before .before .before .before .before .before .before .before .before .before .before .before .before .before .before .before .before .before .args .at) (omega (arith, c .before .before .before .before .before .before .before .before .before .before .before .before .before .before .before .before .before .before .before .before .before .before .before .before .if1 .left)) ∙ eq-eqb _ _ (c .before .before .before .before .before .before .before .before .before .before .before .before .before .before .before .before .before .before .before .before .before .before .if2 .left))
+      well-formed-header _ _ (entry .pre .1) _ _ _
+          (begins-at 112 (entry .args .text .now) (entry .args .at) (omega (arith, else2 .before .before .if1 .left)) ∙ eq-eqb _ _ (else2 .if2 .left))
           (well-headed p cnf (variables .0) (clauses .0) ends ∙ ap₂ header (variables .1) (clauses .1))
           (tokens-behind p cnf (variables .0) (clauses .0) ends),
     )

@@ -11,9 +11,13 @@ use Rattle.book.proofs.header.next_field.Statement.{statement}
 use Rattle.book.proofs.header.next_field.Tie as tie
 
 -- what the step of the cursor says, by its answer
-stepped : (c : tie.After-next-in-line) {word : LineWord} → c .next-in-line .result ≡ word
-    → SteppedInLine (c .before .before .args .text .now) (c .before .before .args .cursor .at) word
-stepped c e = subst (SteppedInLine (c .before .before .args .text .now) (c .before .before .args .cursor .at)) e (c .next-in-line .ensures)
+stepped : (c : tie.After-next-in-line) {word : LineWord} →
+    let entry = c .before .before in
+    c .next-in-line .result ≡ word
+    → SteppedInLine (entry .args .text .now) (entry .args .cursor .at) word
+stepped c e =
+    let entry = c .before .before in
+    subst (SteppedInLine (entry .args .text .now) (entry .args .cursor .at)) e (c .next-in-line .ensures)
 
 next-in-line-requires : tie.Need-next-in-line-requires
 next-in-line-requires c κs = search needs
@@ -47,10 +51,13 @@ returns c = line-fails unsigned _ _ _ (stepped (c .before .before) (c .enum-told
 
 returns-2 : tie.Need-returns-2
 returns-2 c =
-    field-passes _ _ _ _ _ (stepped (c .before .before .before .before .before .before .before .before) (c .before .before .before .before .before .before .from .given .1)) (word-unsigned _ _ (sym (c .before .value .given .1) ∙ c .before .before .before .number .ensures))
+    let after-from = c .before .before .before .before .before .before in
+    field-passes _ _ _ _ _ (stepped (after-from .before .before) (after-from .from .given .1)) (word-unsigned _ _ (sym (c .before .value .given .1) ∙ c .before .before .before .number .ensures))
 
 returns-3 : tie.Need-returns-3
-returns-3 c = word-fails unsigned _ _ _ _ (stepped (c .before .before .before .before .before .before .before) (c .before .before .before .before .before .from .given .1)) (word-not-unsigned _ (sym (c .enum-told2 .given .1) ∙ c .before .before .number .ensures))
+returns-3 c =
+    let after-from = c .before .before .before .before .before in
+    word-fails unsigned _ _ _ _ (stepped (after-from .before .before) (after-from .from .given .1)) (word-not-unsigned _ (sym (c .enum-told2 .given .1) ∙ c .before .before .number .ensures))
 
 pub next-field-spec : {M : Type 1} → statement M
 next-field-spec =

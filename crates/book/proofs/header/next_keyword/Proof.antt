@@ -12,9 +12,13 @@ use Rattle.book.proofs.header.next_keyword.Statement.{statement}
 use Rattle.book.proofs.header.next_keyword.Tie as tie
 
 -- what the step of the cursor says, by its answer
-stepped : (c : tie.After-next-in-line) {word : LineWord} → c .next-in-line .result ≡ word
-    → SteppedInLine (c .before .before .before .args .text .now) (c .before .before .before .args .cursor .at) word
-stepped c e = subst (SteppedInLine (c .before .before .before .args .text .now) (c .before .before .before .args .cursor .at)) e (c .next-in-line .ensures)
+stepped : (c : tie.After-next-in-line) {word : LineWord} →
+    let entry = c .before .before .before in
+    c .next-in-line .result ≡ word
+    → SteppedInLine (entry .args .text .now) (entry .args .cursor .at) word
+stepped c e =
+    let entry = c .before .before .before in
+    subst (SteppedInLine (entry .args .text .now) (entry .args .cursor .at)) e (c .next-in-line .ensures)
 
 next-in-line-requires : tie.Need-next-in-line-requires
 next-in-line-requires c κs = search needs
@@ -38,13 +42,21 @@ equal-requires : tie.Need-equal-requires
 equal-requires c κs = search needs
 
 returns : tie.Need-returns
-returns c = line-fails (λ (w : List ℕ). same w (c .before .before .before .before .before .args .word .now)) _ _ _ (stepped (c .before .before) (c .enum-told .given .1))
+returns c =
+    let entry = c .before .before .before .before .before in
+    line-fails (λ (w : List ℕ). same w (entry .args .word .now)) _ _ _ (stepped (c .before .before) (c .enum-told .given .1))
 
 returns-2 : tie.Need-returns-2
-returns-2 c = word-passes (λ (w : List ℕ). same w (c .before .before .before .before .before .before .before .before .before .args .word .now)) _ _ _ _ (stepped (c .before .before .before .before .before .before) (c .before .before .before .before .from .given .1)) (sym (c .before .equal .ensures) ∙ c .if1 .taken)
+returns-2 c =
+    let after-from = c .before .before .before .before in
+    let entry = after-from .before .before .before .before .before in
+    word-passes (λ (w : List ℕ). same w (entry .args .word .now)) _ _ _ _ (stepped (after-from .before .before) (after-from .from .given .1)) (sym (c .before .equal .ensures) ∙ c .if1 .taken)
 
 returns-3 : tie.Need-returns-3
-returns-3 c = word-fails (λ (w : List ℕ). same w (c .before .before .before .before .before .before .before .before .before .args .word .now)) _ _ _ _ (stepped (c .before .before .before .before .before .before) (c .before .before .before .before .from .given .1)) (sym (c .before .equal .ensures) ∙ c .if1 .left)
+returns-3 c =
+    let after-from = c .before .before .before .before in
+    let entry = after-from .before .before .before .before .before in
+    word-fails (λ (w : List ℕ). same w (entry .args .word .now)) _ _ _ _ (stepped (after-from .before .before) (after-from .from .given .1)) (sym (c .before .equal .ensures) ∙ c .if1 .left)
 
 pub next-keyword-spec : {M : Type 1} → statement M
 next-keyword-spec =

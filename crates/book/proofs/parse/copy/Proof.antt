@@ -28,7 +28,9 @@ mul-out-2 : tie.Need-mul-out-2 Inv-loop μ-loop
 mul-out-2 c = omega arith
 
 slice-write-out : tie.Need-slice-write-out Inv-loop μ-loop
-slice-write-out c = omega (arith, length-copied (c .before .before .before .args .numbers .now) (c .before .before .before .args .out .now) _ _ (c .before .before .loop .inv .0))
+slice-write-out c =
+    let entry = c .before .before .before in
+    omega (arith, length-copied (entry .args .numbers .now) (entry .args .out .now) _ _ (c .before .before .loop .inv .0))
 
 add-i : tie.Need-add-i Inv-loop μ-loop
 add-i c = search needs
@@ -37,15 +39,20 @@ loop-less : tie.Need-loop-less Inv-loop μ-loop
 loop-less c = search needs
 
 loop-again : tie.Need-loop-again Inv-loop μ-loop
-loop-again c = (copied-more (c .before .before .before .args .numbers .now) (c .before .before .before .args .out .now) _ (c .before .before .loop .i) (c .before .before .loop .inv .0) (search needs) (search needs), search needs)
+loop-again c =
+    let at-loop = c .before .before in
+    (copied-more (at-loop .before .args .numbers .now) (at-loop .before .args .out .now) _ (at-loop .loop .i) (at-loop .loop .inv .0) (search needs) (search needs), search needs)
 
 same-length : tie.Need-same-length Inv-loop μ-loop
-same-length c = length-copied (c .before .before .args .numbers .now) (c .before .before .args .out .now) _ _ (c .before .loop .inv .0)
+same-length c =
+    let entry = c .before .before in
+    length-copied (entry .args .numbers .now) (entry .args .out .now) _ _ (c .before .loop .inv .0)
 
 returns : tie.Need-returns Inv-loop μ-loop
 returns c =
-    let all-copied : c .before .loop .i ≡ c .before .before .args .n = omega arith in
-    c .before .loop .inv .0 .is ∙ ap (λ (k : ℕ). take k (c .before .before .args .numbers .now) ++ drop k (c .before .before .args .out .now)) all-copied
+    let entry = c .before .before in
+    let all-copied : c .before .loop .i ≡ entry .args .n = omega arith in
+    c .before .loop .inv .0 .is ∙ ap (λ (k : ℕ). take k (entry .args .numbers .now) ++ drop k (entry .args .out .now)) all-copied
 
 pub copy-spec : {M : Type 1} → statement M
 copy-spec =

@@ -15,20 +15,31 @@ use borrow.Author.Needs.{needs}
 use Rattle.book.proofs.parse.parse.Statement.{statement}
 use Rattle.book.proofs.parse.parse.Tie as tie
 
+abbrev entry-of-after-variables : tie.After-variables → tie.Start
+entry-of-after-variables c = c .before .before .before .before .before
+
 -- the answer to the text, from its header on
-headed : (c : tie.After-variables) → (c .variables .given .0 .1 .1 .0 .at ≤ length (c .before .before .before .before .before .args .text .now))
-    × (walkLines (linesOf (c .before .before .before .before .before .args .text .now)) ≡ walkUnder (header (c .variables .given .0 .0) (c .variables .given .0 .1 .0)) (tokensHere (c .before .before .before .before .before .args .text .now) (c .variables .given .0 .1 .1 .0 .at)))
+headed : (c : tie.After-variables) →
+    let entry = entry-of-after-variables c in
+    (c .variables .given .0 .1 .1 .0 .at ≤ length (entry .args .text .now))
+    × (walkLines (linesOf (entry .args .text .now)) ≡ walkUnder (header (c .variables .given .0 .0) (c .variables .given .0 .1 .0)) (tokensHere (entry .args .text .now) (c .variables .given .0 .1 .1 .0 .at)))
 headed c =
-    let says = subst (HeaderSays (c .before .before .before .before .before .args .text .now) (c .before .before .before .line-start .result)) (c .variables .given .1) (c .before .before .header-at .ensures) in
-    (says .0, text-start (c .before .before .before .before .before .args .text .now) (c .before .before .before .line-start .result) (c .before .before .before .line-start .ensures) ∙ says .1)
+    let after-line-start = c .before .before .before in
+    let entry = after-line-start .before .before in
+    let says = subst (HeaderSays (entry .args .text .now) (after-line-start .line-start .result)) (c .variables .given .1) (c .before .before .header-at .ensures) in
+    (says .0, text-start (entry .args .text .now) (after-line-start .line-start .result) (after-line-start .line-start .ensures) ∙ says .1)
 
 -- within the limits the clauses decide
-limited : (c : tie.After-wide2) → walkLines (linesOf (c .before .before .before .before .before .before .before .before .before .before .before .args .text .now))
-    ≡ walk (c .before .wide .result) (c .wide2 .result) [] [] (tokensHere (c .before .before .before .before .before .before .before .before .before .before .before .args .text .now) (c .before .before .before .before .before .before .variables .given .0 .1 .1 .0 .at))
+limited : (c : tie.After-wide2) →
+    let after-variables = c .before .before .before .before .before .before in
+    let entry = entry-of-after-variables after-variables in
+    walkLines (linesOf (entry .args .text .now))
+    ≡ walk (c .before .wide .result) (c .wide2 .result) [] [] (tokensHere (entry .args .text .now) (after-variables .variables .given .0 .1 .1 .0 .at))
 limited c =
+    let else1 = c .before .before .before .before in
     rw (c .before .wide .ensures .0, c .wide2 .ensures .0)
-    (headed (c .before .before .before .before .before .before) .1
-    ∙ header-taken _ _ _ (within-limits _ _ (c .before .before .before .before .if1 .left) (c .before .before .before .if2 .left) (c .before .before .if3 .left)))
+    (headed (else1 .before .before) .1
+    ∙ header-taken _ _ _ (within-limits _ _ (else1 .if1 .left) (c .before .before .before .if2 .left) (c .before .before .if3 .left)))
 
 -- what the clauses say, by the answer
 abbrev body-says : (c : tie.After-clauses-at) {body : Body} → c .clauses-at .result ≡ body
@@ -54,7 +65,10 @@ enum-told : tie.Need-enum-told
 enum-told c = search needs
 
 returns : tie.Need-returns
-returns c = text-start (c .before .before .before .before .before .args .text .now) _ (c .before .before .before .line-start .ensures) ∙ subst (HeaderSays (c .before .before .before .before .before .args .text .now) (c .before .before .before .line-start .result)) (c .enum-told .given .1) (c .before .before .header-at .ensures)
+returns c =
+    let after-line-start = c .before .before .before in
+    let entry = after-line-start .before .before in
+    text-start (entry .args .text .now) _ (after-line-start .line-start .ensures) ∙ subst (HeaderSays (entry .args .text .now) (after-line-start .line-start .result)) (c .enum-told .given .1) (c .before .before .header-at .ensures)
 
 returns-2 : tie.Need-returns-2
 returns-2 c = headed (c .before .before) .1 ∙ header-refused _ _ _ (outside-none _ _ (c .if1 .taken))
@@ -63,7 +77,9 @@ returns-3 : tie.Need-returns-3
 returns-3 c = headed (c .before .before .before) .1 ∙ header-refused _ _ _ (outside-variables _ _ (c .if2 .taken))
 
 returns-4 : tie.Need-returns-4
-returns-4 c = headed (c .before .before .before .before) .1 ∙ header-refused _ _ _ (outside-clauses _ _ (c .if3 .taken))
+returns-4 c =
+    let after-variables = c .before .before .before .before in
+    headed after-variables .1 ∙ header-refused _ _ _ (outside-clauses _ _ (c .if3 .taken))
 
 wide-requires : tie.Need-wide-requires
 wide-requires c κs = search needs
@@ -72,7 +88,10 @@ wide-requires-2 : tie.Need-wide-requires-2
 wide-requires-2 c κs = search needs
 
 clauses-at-requires : tie.Need-clauses-at-requires
-clauses-at-requires c κs = (headed (c .before .before .before .before .before .before .before) .0, omega arith, omega arith, c .before .before .before .before .before .before .before .before .before .before .before .before .pre)
+clauses-at-requires c κs =
+    let after-variables = c .before .before .before .before .before .before .before in
+    let entry = entry-of-after-variables after-variables in
+    (headed after-variables .0, omega arith, omega arith, entry .pre)
 
 enum-known-number : tie.Need-enum-known-number
 enum-known-number c = search needs
@@ -90,21 +109,24 @@ element-write-numbers-3 : tie.Need-element-write-numbers-3
 element-write-numbers-3 c = search needs
 
 returns-5 : tie.Need-returns-5
-returns-5 c = limited (c .before .before .before .before .before) ∙ body-says (c .before .before .before) (c .before .number .given .1)
+returns-5 c =
+    let after-wide2 = c .before .before .before .before .before in
+    limited after-wide2 ∙ body-says (c .before .before .before) (c .before .number .given .1)
 
 returns-6 : tie.Need-returns-6
 returns-6 c =
+    let after-wide2 = c .before .before .before .before .before in
     let read = body-says (c .before .before .before) (c .before .literals .given .1) in
     record {
-      formula = record { variables = c .before .before .before .before .before .before .wide .result; clauses = read .0 };
-      is-accepted = limited (c .before .before .before .before .before) ∙ read .1;
-      same-variables = c .before .before .before .before .before .before .wide .ensures .0;
-      same-clauses = read .2 ∙ c .before .before .before .before .before .wide2 .ensures .0;
+      formula = record { variables = after-wide2 .before .wide .result; clauses = read .0 };
+      is-accepted = limited after-wide2 ∙ read .1;
+      same-variables = after-wide2 .before .wide .ensures .0;
+      same-clauses = read .2 ∙ after-wide2 .wide2 .ensures .0;
       same-literals = read .3;
-      few-clauses = c .before .before .before .before .before .before .before .if3 .left;
+      few-clauses = after-wide2 .before .before .if3 .left;
       few-literals = read .4;
       long = simp length-set (read .5 .long);
-      front = rw (sym (c .before .before .before .before .before .wide2 .ensures .0), sym (c .before .before .before .before .before .before .wide .ensures .0)) (written-front _ (c .before .before .before .before .before .before .wide .result) (c .before .before .before .before .before .wide2 .result) _ (read .0) (read .5) (read .2) (read .3));
+      front = rw (sym (after-wide2 .wide2 .ensures .0), sym (after-wide2 .before .wide .ensures .0)) (written-front _ (after-wide2 .before .wide .result) (after-wide2 .wide2 .result) _ (read .0) (read .5) (read .2) (read .3));
     }
 
 pub parse-spec : {M : Type 1} → statement M

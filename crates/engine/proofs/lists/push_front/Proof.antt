@@ -35,7 +35,8 @@ same-length c = search needs
 
 returns : tie.Need-returns
 returns c =
-    let pre = c .before .before .before .before .pre in
+    let entry = c .before .before .before .before in
+    let pre = entry .pre in
     slot-pushed-front (pre .1) (pre .2) (pre .3) (pre .4) (rw (c .before .before .head-slot .ensures, c .before .link-slot .ensures))
 
 pub push-front-spec : {M : Type 1} → statement M

@@ -27,9 +27,10 @@ same-length c = search needs
 
 returns : tie.Need-returns
 returns c =
-    slot-taken-out (c .before .before .before .pre .1)
-    (ap (λ (x : ℕ). set (c .before .before .before .args .session .now) (c .before .before .before .args .walk .slot) (getD (c .before .before .before .args .session .now) x 0)) (c .before .link-slot .ensures))
-    refl (ap (λ (x : ℕ). getD (c .before .before .before .args .session .now) x 0) (c .before .link-slot .ensures))
+    let entry = c .before .before .before in
+    slot-taken-out (entry .pre .1)
+    (ap (λ (x : ℕ). set (entry .args .session .now) (entry .args .walk .slot) (getD (entry .args .session .now) x 0)) (c .before .link-slot .ensures))
+    refl (ap (λ (x : ℕ). getD (entry .args .session .now) x 0) (c .before .link-slot .ensures))
 
 pub take-out-spec : {M : Type 1} → statement M
 take-out-spec =

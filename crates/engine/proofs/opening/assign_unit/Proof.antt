@@ -93,18 +93,22 @@ shared-slice-read-literal c = omega (arith, clause-at (c .before .before) .fits,
 
 literal-value-requires : tie.Need-literal-value-requires
 literal-value-requires c κs =
+    let after-variables = c .before .before .before .before .before in
     let b = literal-bounds (c .before .before) in
-    let same = c .before .before .before .before .before .variables .ensures in
+    let same = after-variables .variables .ensures in
     (fits (c .before .before .before), b .0, omega arith)
 
 -- the value of the literal
-value-at : (c : tie.After-literal-value) (at : Units (book (c .before .before .before .before)) (start (c .before .before .before .before) .args .session .now) (start (c .before .before .before .before) .args .c))
-    → ValueSays (at .run .trail) (getD (clause (c .before .before .before .before)) 0 0) (c .literal-value .result)
+value-at : (c : tie.After-literal-value) →
+    let after-clause-start2 = c .before .before .before .before in
+    (at : Units (book after-clause-start2) (start after-clause-start2 .args .session .now) (start after-clause-start2 .args .c))
+    → ValueSays (at .run .trail) (getD (clause after-clause-start2) 0 0) (c .literal-value .result)
 value-at c at =
-    let b = literal-bounds (c .before .before .before) in
-    let variables = c .before .before .before .before .before .before .variables in
-    rw (← literal-is (c .before .before .before))
-    (unit-value at (variables .result) (literal (c .before .before .before)) (c .literal-value .result) (variables .ensures) (b .0) (b .1) (c .literal-value .ensures))
+    let else1 = c .before .before .before in
+    let b = literal-bounds else1 in
+    let variables = else1 .before .before .before .variables in
+    rw (← literal-is else1)
+    (unit-value at (variables .result) (literal else1) (c .literal-value .result) (variables .ensures) (b .0) (b .1) (c .literal-value .ensures))
 
 enum-told : tie.Need-enum-told
 enum-told c = search needs
@@ -112,32 +116,40 @@ enum-told c = search needs
 enum-told-2 : tie.Need-enum-told-2
 enum-told-2 c = search needs
 
+abbrev after-clause-start2-of-after-enum-told2 : tie.After-enum-told2 → tie.After-clause-start2
+after-clause-start2-of-after-enum-told2 c = c .before .before .before .before .before .before
+
 cast-session : tie.Need-cast-session
 cast-session c =
-    let read = c .before .before .before .before .before .before in
+    let read = after-clause-start2-of-after-enum-told2 c in
     omega (arith, limited read .clauses, start read .pre .1)
 
 add-session : tie.Need-add-session
 add-session c =
-    let read = c .before .before .before .before .before .before in
+    let read = after-clause-start2-of-after-enum-told2 c in
     omega (arith, limited read .clauses, start read .pre .1)
 
 slice-write-session : tie.Need-slice-write-session
-slice-write-session c = omega (arith, start (c .before .before .before .before .before .before) .pre .0 .encodes .long)
+slice-write-session c =
+    let after-clause-start2 = after-clause-start2-of-after-enum-told2 c in
+    omega (arith, start after-clause-start2 .pre .0 .encodes .long)
 
 enum-told-3 : tie.Need-enum-told-3
 enum-told-3 c = search needs
 
 -- an open literal
-open-at : (c : tie.After-enum-told3) (at : Units (book (c .before .before .before .before .before .before)) (start (c .before .before .before .before .before .before) .args .session .now) (start (c .before .before .before .before .before .before) .args .c))
-    → ValueSays (at .run .trail) (getD (clause (c .before .before .before .before .before .before)) 0 0) t.Open
+open-at : (c : tie.After-enum-told3) →
+    let after-clause-start2 = c .before .before .before .before .before .before in
+    (at : Units (book after-clause-start2) (start after-clause-start2 .args .session .now) (start after-clause-start2 .args .c))
+    → ValueSays (at .run .trail) (getD (clause after-clause-start2) 0 0) t.Open
 open-at c at =
-    subst (ValueSays (at .run .trail) (getD (clause (c .before .before .before .before .before .before)) 0 0)) (c .enum-told3 .given .1) (value-at (c .before .before) at)
+    let after-clause-start2 = c .before .before .before .before .before .before in
+    subst (ValueSays (at .run .trail) (getD (clause after-clause-start2) 0 0)) (c .enum-told3 .given .1) (value-at (c .before .before) at)
 
 assign-requires : tie.Need-assign-requires
 assign-requires c κs =
-    let read = c .before .before .before .before .before .before .before in
     let one = c .before .before .before .before .before .before in
+    let read = one .before in
     let at = start read .pre .0 in
     let s = open-at (c .before) at in
     let b = literal-bounds one in
@@ -149,9 +161,10 @@ same-length c = search needs
 
 returns-2 : tie.Need-returns-2
 returns-2 c =
+    let else1 = c .before .before .before .before .before in
+    let read = else1 .before in
     λ at.
-    let read = c .before .before .before .before .before .before in
-    unit-true (start read .args .c) at (one-at (c .before .before .before .before .before))
+    unit-true (start read .args .c) at (one-at else1)
     (subst (ValueSays (at .run .trail) (getD (clause read) 0 0)) (c .enum-told .given .1) (value-at (c .before .before) at) .0)
 
 same-length-2 : tie.Need-same-length-2
@@ -159,20 +172,22 @@ same-length-2 c = search needs
 
 returns-3 : tie.Need-returns-3
 returns-3 c =
+    let else1 = c .before .before .before .before .before in
+    let read = else1 .before in
     λ at.
-    let read = c .before .before .before .before .before .before in
     let s = subst (ValueSays (at .run .trail) (getD (clause read) 0 0)) (c .enum-told2 .given .1) (value-at (c .before .before) at) in
-    unit-false (start read .args .c) at (one-at (c .before .before .before .before .before)) (s .0) (s .1)
+    unit-false (start read .args .c) at (one-at else1) (s .0) (s .1)
 
 same-length-3 : tie.Need-same-length-3
 same-length-3 c = search needs
 
 returns-4 : tie.Need-returns-4
 returns-4 c =
-    λ at.
-    let one = c .before .before .before .before .before .before .before .before .before in
+    let after-enum-told3 = c .before .before .before .before in
+    let one = after-enum-told3 .before .before .before .before .before in
     let read = one .before in
-    let s = open-at (c .before .before .before .before) at in
+    λ at.
+    let s = open-at after-enum-told3 at in
     subst (λ (after : List ℕ). UnitDone (book read) (start read .args .session .now) after (start read .args .c) (at .run) false)
     (sym (c .before .before .assign .ensures ∙ ap₂ (λ (v l : ℕ). assignNums v (start read .args .session .now) l 0) (read .before .before .variables .ensures) (literal-is one)))
     (unit-open (start read .args .c) at (one-at one) (s .0) (s .1))

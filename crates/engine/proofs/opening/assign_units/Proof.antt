@@ -23,21 +23,37 @@ clauses-requires c κs =
 
 loop-holds : tie.Need-loop-holds Inv-loop μ-loop
 loop-holds c =
-    (omega arith, units-begin (c .before .before .before .args .book .now) (c .before .before .before .args .session .now) (c .before .before .before .pre .0) (c .before .before .before .pre .1))
+    let entry = c .before .before .before in
+    (omega arith, units-begin (entry .args .book .now) (entry .args .session .now) (entry .pre .0) (entry .pre .1))
+
+abbrev entry-of-at-loop : tie.At-loop Inv-loop μ-loop → tie.Start Inv-loop μ-loop
+entry-of-at-loop c = c .before .before .before .before
 
 assign-unit-requires : tie.Need-assign-unit-requires Inv-loop μ-loop
 assign-unit-requires c κs =
-    (units-at (c .before .before .before .before .before .before .args .book .now) (c .before .before .before .before .before .before .args .session .now) (c .before .before .before .before .before .before .pre .0) (c .before .before .loop .c) (c .before .before .loop .inv .1), omega (arith, c .before .before .before .clauses .ensures))
+    let at-loop = c .before .before in
+    let entry = entry-of-at-loop at-loop in
+    (units-at (entry .args .book .now) (entry .args .session .now) (entry .pre .0) (at-loop .loop .c) (at-loop .loop .inv .1), omega (arith, at-loop .before .clauses .ensures))
 
 -- the clause is done
-done : (c : tie.After-assign-unit Inv-loop μ-loop)
-    → UnitDone (c .before .before .before .before .before .before .before .args .book .now) (c .before .before .before .loop .session) (c .assign-unit .last .1 .0) (c .before .before .before .loop .c) (c .before .before .before .loop .inv .1 .run) (c .assign-unit .result)
-done c = c .assign-unit .ensures (units-at (c .before .before .before .before .before .before .before .args .book .now) (c .before .before .before .before .before .before .before .args .session .now) (c .before .before .before .before .before .before .before .pre .0) (c .before .before .before .loop .c) (c .before .before .before .loop .inv .1))
+done : (c : tie.After-assign-unit Inv-loop μ-loop) →
+    let at-loop = c .before .before .before in
+    let entry = entry-of-at-loop at-loop in
+    UnitDone (entry .args .book .now) (at-loop .loop .session) (c .assign-unit .last .1 .0) (at-loop .loop .c) (at-loop .loop .inv .1 .run) (c .assign-unit .result)
+done c =
+    let at-loop = c .before .before .before in
+    let entry = entry-of-at-loop at-loop in
+    c .assign-unit .ensures (units-at (entry .args .book .now) (entry .args .session .now) (entry .pre .0) (at-loop .loop .c) (at-loop .loop .inv .1))
 
-conflict : (c : tie.Then1 Inv-loop μ-loop) → Becomes (c .before .before .before .before .before .before .before .before .before .before .args .book .now) (c .before .before .before .before .before .before .before .before .before .before .args .session .now) (c .before .before .before .assign-unit .last .1 .0) (assignUnits 0 (formulaOf (c .before .before .before .before .before .before .before .before .before .before .args .book .now) .clauses) (fresh (formulaOf (c .before .before .before .before .before .before .before .before .before .before .args .book .now))))
+conflict : (c : tie.Then1 Inv-loop μ-loop) →
+    let entry = c .before .before .before .before .before .before .before .before .before .before in
+    Becomes (entry .args .book .now) (entry .args .session .now) (c .before .before .before .assign-unit .last .1 .0) (assignUnits 0 (formulaOf (entry .args .book .now) .clauses) (fresh (formulaOf (entry .args .book .now))))
 conflict c =
-    units-conflict (c .before .before .before .before .before .before .before .before .before .before .args .book .now) (c .before .before .before .before .before .before .before .before .before .before .args .session .now) (c .before .before .before .before .before .before .before .before .before .before .pre .0) (c .before .before .before .before .before .before .loop .c) (omega (arith, c .before .before .before .before .before .before .before .clauses .ensures)) (c .before .before .before .before .before .before .loop .inv .1)
-    (subst (UnitDone (c .before .before .before .before .before .before .before .before .before .before .args .book .now) (c .before .before .before .before .before .before .loop .session) (c .before .before .before .assign-unit .last .1 .0) (c .before .before .before .before .before .before .loop .c) (c .before .before .before .before .before .before .loop .inv .1 .run)) (c .if1 .taken) (done (c .before .before .before)))
+    let after-assign-unit = c .before .before .before in
+    let at-loop = after-assign-unit .before .before .before in
+    let entry = entry-of-at-loop at-loop in
+    units-conflict (entry .args .book .now) (entry .args .session .now) (entry .pre .0) (at-loop .loop .c) (omega (arith, at-loop .before .clauses .ensures)) (at-loop .loop .inv .1)
+    (subst (UnitDone (entry .args .book .now) (at-loop .loop .session) (after-assign-unit .assign-unit .last .1 .0) (at-loop .loop .c) (at-loop .loop .inv .1 .run)) (c .if1 .taken) (done after-assign-unit))
 
 same-length : tie.Need-same-length Inv-loop μ-loop
 same-length c =
@@ -57,7 +73,10 @@ loop-less c =
 
 loop-again : tie.Need-loop-again Inv-loop μ-loop
 loop-again c =
-    (omega arith, units-next (c .before .before .before .before .before .before .before .before .before .before .args .book .now) (c .before .before .before .before .before .before .before .before .before .before .args .session .now) (c .before .before .before .before .before .before .before .before .before .before .pre .0) (c .before .before .before .before .before .before .loop .c) (omega (arith, c .before .before .before .before .before .before .before .clauses .ensures)) (c .before .before .before .before .before .before .loop .inv .1) (subst (UnitDone (c .before .before .before .before .before .before .before .before .before .before .args .book .now) (c .before .before .before .before .before .before .loop .session) (c .before .before .before .assign-unit .last .1 .0) (c .before .before .before .before .before .before .loop .c) (c .before .before .before .before .before .before .loop .inv .1 .run)) (c .if1 .left) (done (c .before .before .before))))
+    let after-assign-unit = c .before .before .before in
+    let at-loop = after-assign-unit .before .before .before in
+    let entry = entry-of-at-loop at-loop in
+    (omega arith, units-next (entry .args .book .now) (entry .args .session .now) (entry .pre .0) (at-loop .loop .c) (omega (arith, at-loop .before .clauses .ensures)) (at-loop .loop .inv .1) (subst (UnitDone (entry .args .book .now) (at-loop .loop .session) (after-assign-unit .assign-unit .last .1 .0) (at-loop .loop .c) (at-loop .loop .inv .1 .run)) (c .if1 .left) (done after-assign-unit)))
 
 same-length-2 : tie.Need-same-length-2 Inv-loop μ-loop
 same-length-2 c =
@@ -65,7 +84,8 @@ same-length-2 c =
 
 returns-2 : tie.Need-returns-2 Inv-loop μ-loop
 returns-2 c =
-    units-end (c .before .before .before .before .before .args .book .now) (c .before .before .before .before .before .args .session .now) (c .before .before .before .before .before .pre .0) (c .before .loop .c) (omega (arith, c .before .before .clauses .ensures)) (c .before .loop .inv .1)
+    let entry = c .before .before .before .before .before in
+    units-end (entry .args .book .now) (entry .args .session .now) (entry .pre .0) (c .before .loop .c) (omega (arith, c .before .before .clauses .ensures)) (c .before .loop .inv .1)
 
 pub assign-units-spec : {M : Type 1} → statement M
 assign-units-spec =

@@ -39,7 +39,8 @@ loop-less c = omega arith
 
 loop-again : tie.Need-loop-again Inv-loop μ-loop
 loop-again c =
-    let inv = c .before .before .before .before .before .loop .inv in
+    let at-loop = c .before .before .before .before .before in
+    let inv = at-loop .loop .inv in
     let done = c .before .before .watch-clause .ensures in
     (omega arith, done .same-length ∙ inv .1, done .same-behind ∙ inv .2, done .holds (inv .3))
 

@@ -70,18 +70,21 @@ at-else1 c = c .before
 two : (c : tie.Else1) → 2 ≤ length (clauseAt (book (at-else1 c)) (start (at-else1 c) .args .c))
 two c = omega (arith, clause-at (c .before) .size-is, c .if1 .left)
 
-literal-at : (c : tie.Else1) (i : ℕ) → i < 2
-    → (2 ≤ getD (book (at-else1 c)) (c .before .before .clause-start .result + i) 0)
-    × (getD (book (at-else1 c)) (c .before .before .clause-start .result + i) 0 ≤ 2 * variables (at-else1 c) + 1)
+literal-at : (c : tie.Else1) →
+    let after-clause-start = c .before .before in
+    (i : ℕ) → i < 2
+    → (2 ≤ getD (book (at-else1 c)) (after-clause-start .clause-start .result + i) 0)
+    × (getD (book (at-else1 c)) (after-clause-start .clause-start .result + i) 0 ≤ 2 * variables (at-else1 c) + 1)
 literal-at c i h =
     let few : i < length (clauseAt (book (at-else1 c)) (start (at-else1 c) .args .c)) = omega (arith, two c) in
     let bounds = clause-at (c .before) .bounds i few in
     let is = clause-at (c .before) .literal i few in
     (omega (arith, is, bounds .0), omega (arith, is, bounds .1, variables-are (at-else1 c)))
 
-first-at : (c : tie.Else1)
-    → (2 ≤ getD (book (at-else1 c)) (c .before .before .clause-start .result) 0)
-    × (getD (book (at-else1 c)) (c .before .before .clause-start .result) 0 ≤ 2 * variables (at-else1 c) + 1)
+first-at : (c : tie.Else1) →
+    let after-clause-start = c .before .before in
+    (2 ≤ getD (book (at-else1 c)) (after-clause-start .clause-start .result) 0)
+    × (getD (book (at-else1 c)) (after-clause-start .clause-start .result) 0 ≤ 2 * variables (at-else1 c) + 1)
 first-at c =
     let few : 0 < length (clauseAt (book (at-else1 c)) (start (at-else1 c) .args .c)) = omega (arith, two c) in
     let bounds = clause-at (c .before) .bounds 0 few in
@@ -99,7 +102,9 @@ abbrev at-push-front : tie.After-push-front → tie.After-clause-start2
 at-push-front c = c .before .before .before .before .before .before .before .before
 
 pushed-length : (c : tie.After-push-front) → length (c .push-front .last .0) ≡ length (session (at-push-front c))
-pushed-length c = c .push-front .ensures .only .same-length ∙ stored-length (c .before .before .before .before .before)
+pushed-length c =
+    let after-set-watch = c .before .before .before .before .before in
+    c .push-front .ensures .only .same-length ∙ stored-length after-set-watch
 
 sub-if1 : tie.Need-sub-if1
 sub-if1 c = clause-at c .rises
@@ -107,7 +112,7 @@ sub-if1 c = clause-at c .rises
 returns : tie.Need-returns
 returns c =
     let here = c .before in
-    first-none (book here) (start here .args .c) (start here .pre .0 .well) (start here .pre .1) (omega (arith, clause-at (c .before) .size-is, c .if1 .taken))
+    first-none (book here) (start here .args .c) (start here .pre .0 .well) (start here .pre .1) (omega (arith, clause-at here .size-is, c .if1 .taken))
 
 mul-node : tie.Need-mul-node
 mul-node c =
@@ -130,11 +135,14 @@ set-watch-requires c κs =
     let i = inside here in (fits-at here, omega arith, omega arith)
 
 mul-push-front : tie.Need-mul-push-front
-mul-push-front c = omega (arith, clause-at (c .before .before .before .before .before .before) .fits)
+mul-push-front c =
+    let here = c .before .before .before .before .before .before in
+    omega (arith, clause-at here .fits)
 
 shared-slice-read-push-front : tie.Need-shared-slice-read-push-front
 shared-slice-read-push-front c =
-    omega (arith, clause-at (c .before .before .before .before .before .before .before) .fits, c .before .before .before .before .before .before .if1 .left)
+    let else1 = c .before .before .before .before .before .before in
+    omega (arith, clause-at (else1 .before) .fits, else1 .if1 .left)
 
 add-push-front : tie.Need-add-push-front
 add-push-front c =
@@ -143,21 +151,24 @@ add-push-front c =
 
 push-front-requires : tie.Need-push-front-requires
 push-front-requires c κs =
-    let here = c .before .before .before .before .before .before .before in
+    let after-set-watch = c .before .before .before .before in
+    let here = at-set-watch after-set-watch in
     let i = inside here in
-    let l = first-at (c .before .before .before .before .before .before) in
-    (fits-kept (stored-length (c .before .before .before .before)) (fits-at here), l .0, l .1, omega arith, omega arith)
+    let l = first-at (after-set-watch .before .before) in
+    (fits-kept (stored-length after-set-watch) (fits-at here), l .0, l .1, omega arith, omega arith)
 
 add-push-front-2 : tie.Need-add-push-front-2
 add-push-front-2 c = search needs
 
 mul-push-front-2 : tie.Need-mul-push-front-2
 mul-push-front-2 c =
-    omega (arith, clause-at (c .before .before .before .before .before .before .before .before .before .before .before) .fits, c .before .before .before .before .before .before .before .before .before .before .if1 .left)
+    let else1 = c .before .before .before .before .before .before .before .before .before .before in
+    omega (arith, clause-at (else1 .before) .fits, else1 .if1 .left)
 
 shared-slice-read-push-front-2 : tie.Need-shared-slice-read-push-front-2
 shared-slice-read-push-front-2 c =
-    omega (arith, clause-at (c .before .before .before .before .before .before .before .before .before .before .before .before) .fits, c .before .before .before .before .before .before .before .before .before .before .before .if1 .left)
+    let else1 = c .before .before .before .before .before .before .before .before .before .before .before in
+    omega (arith, clause-at (else1 .before) .fits, else1 .if1 .left)
 
 add-push-front-3 : tie.Need-add-push-front-3
 add-push-front-3 c =
@@ -166,23 +177,27 @@ add-push-front-3 c =
 
 push-front-requires-2 : tie.Need-push-front-requires-2
 push-front-requires-2 c κs =
-    let here = c .before .before .before .before .before .before .before .before .before .before .before .before in
+    let after-push-front = c .before .before .before .before in
+    let else1 = after-push-front .before .before .before .before .before .before .before in
+    let here = else1 .before in
     let i = inside here in
-    let l = literal-at (c .before .before .before .before .before .before .before .before .before .before .before) 1 (omega arith) in
-    (fits-kept (pushed-length (c .before .before .before .before)) (fits-at here), l .0, l .1, omega arith, omega arith)
+    let l = literal-at else1 1 (omega arith) in
+    (fits-kept (pushed-length after-push-front) (fits-at here), l .0, l .1, omega arith, omega arith)
 
 same-length : tie.Need-same-length
 same-length c = search needs
 
 returns-2 : tie.Need-returns-2
 returns-2 c =
-    let here = c .before .before .before .before .before .before .before .before .before .before .before .before .before .before .before in
+    let after-push-front = c .before .before .before .before .before .before .before in
+    let after-set-watch = after-push-front .before .before .before .before .before in
+    let here = at-set-watch after-set-watch in
     let s = start here in
     let read = clause-at here in
-    let big = two (c .before .before .before .before .before .before .before .before .before .before .before .before .before .before) in
+    let big = two (after-set-watch .before .before) in
     first-some (s .args .book .now) (s .args .c) (s .pre .0 .well) (s .pre .1) (variables here) (clauses here) _ _ (s .args .session .now)
     (variables-are here) (clauses-are here) (read .first (omega arith)) (read .literal 1 big) big
-    (c .before .before .before .before .before .before .before .before .before .before .before .before .set-watch .ensures) (c .before .before .before .before .before .before .before .push-front .ensures) (c .before .before .push-front2 .ensures)
+    (after-set-watch .set-watch .ensures) (after-push-front .push-front .ensures) (c .before .before .push-front2 .ensures)
 
 pub watch-clause-spec : {M : Type 1} → statement M
 watch-clause-spec =

@@ -36,7 +36,9 @@ slice-read-if1 : tie.Need-slice-read-if1 Inv-loop μ-loop Inv-propagating μ-pro
 slice-read-if1 c = omega (arith, c .before .before .before .pre .encodes .long)
 
 returns : tie.Need-returns Inv-loop μ-loop Inv-propagating μ-propagating
-returns c = λ at. propagating-stands (c .before .before .before .before .args .book .now) (c .if1 .taken) at
+returns c =
+    let entry = c .before .before .before .before in
+    λ at. propagating-stands (entry .args .book .now) (c .if1 .taken) at
 
 variables-requires : tie.Need-variables-requires Inv-loop μ-loop Inv-propagating μ-propagating
 variables-requires c κs = search needs
@@ -46,11 +48,13 @@ clauses-requires c κs = search needs
 
 propagating-holds : tie.Need-propagating-holds Inv-loop μ-loop Inv-propagating μ-propagating
 propagating-holds c =
-    λ begun. propagating-begins (c .before .before .before .before .before .before .args .book .now) (c .before .before .if1 .left) begun
+    let entry = c .before .before .before .before .before .before in
+    λ begun. propagating-begins (entry .args .book .now) (c .before .before .if1 .left) begun
 
 slice-read-wide : tie.Need-slice-read-wide Inv-loop μ-loop Inv-propagating μ-propagating
 slice-read-wide c =
-    omega (arith, c .before .propagating .inv (c .before .before .before .before .before .before .before .before .pre) .becomes .encodes .long)
+    let entry = c .before .before .before .before .before .before .before .before in
+    omega (arith, c .before .propagating .inv (entry .pre) .becomes .encodes .long)
 
 wide-requires : tie.Need-wide-requires Inv-loop μ-loop Inv-propagating μ-propagating
 wide-requires c κs = search needs
@@ -132,9 +136,11 @@ abbrev at-then3 : tie.Then3 Inv-loop μ-loop Inv-propagating μ-propagating → 
 at-then3 c = c .before .before .before .before .before .before
 
 -- the clause that is next
-reading-at : (c : tie.Then3 Inv-loop μ-loop Inv-propagating μ-propagating) (next : Next (book (at-then3 c)) (numbers (at-then3 c)) (place (at-then3 c)))
+reading-at : (c : tie.Then3 Inv-loop μ-loop Inv-propagating μ-propagating) →
+    let at-loop = c .before .before in
+    (next : Next (book (at-then3 c)) (numbers (at-then3 c)) (place (at-then3 c)))
     → (d : ℕ) × (unread : List ℕ)
-    × ReadingOn (book (at-then3 c)) (numbers (at-then3 c)) (c .before .before .loop .session) (place (at-then3 c)) (c .before .before .loop .walk) (next .run) (d ∷ unread)
+    × ReadingOn (book (at-then3 c)) (numbers (at-then3 c)) (at-loop .loop .session) (place (at-then3 c)) (at-loop .loop .walk) (next .run) (d ∷ unread)
 reading-at c next = reading-on-more (book (at-then3 c)) (c .before .before .loop .inv next) (c .if3 .taken)
 
 visit-clause-requires :
@@ -151,80 +157,99 @@ abbrev at-visit-clause : tie.After-visit-clause Inv-loop μ-loop Inv-propagating
 at-visit-clause c = c .before .before .before .before .before .before .before .before
 
 -- it was visited
-visited-at : (c : tie.After-visit-clause Inv-loop μ-loop Inv-propagating μ-propagating) (next : Next (book (at-visit-clause c)) (numbers (at-visit-clause c)) (place (at-visit-clause c)))
-    → Visited (book (at-visit-clause c)) (c .before .before .before .before .loop .session) (c .visit-clause .last .1 .0)
-    (visiting (book (at-visit-clause c)) (reading-at (c .before .before) next .0) (reading-at (c .before .before) next .1) (start (at-visit-clause c) .pre .well) (reading-at (c .before .before) next .2)) (c .visit-clause .result)
-visited-at c next = c .visit-clause .ensures (visiting (book (at-visit-clause c)) (reading-at (c .before .before) next .0) (reading-at (c .before .before) next .1) (start (at-visit-clause c) .pre .well) (reading-at (c .before .before) next .2))
+visited-at : (c : tie.After-visit-clause Inv-loop μ-loop Inv-propagating μ-propagating) →
+    let then3 = c .before .before in
+    (next : Next (book (at-visit-clause c)) (numbers (at-visit-clause c)) (place (at-visit-clause c)))
+    → Visited (book (at-visit-clause c)) (then3 .before .before .loop .session) (c .visit-clause .last .1 .0)
+    (visiting (book (at-visit-clause c)) (reading-at then3 next .0) (reading-at then3 next .1) (start (at-visit-clause c) .pre .well) (reading-at then3 next .2)) (c .visit-clause .result)
+visited-at c next =
+    let then3 = c .before .before in
+    c .visit-clause .ensures (visiting (book (at-visit-clause c)) (reading-at then3 next .0) (reading-at then3 next .1) (start (at-visit-clause c) .pre .well) (reading-at then3 next .2))
 
 abbrev at-next : tie.After-next Inv-loop μ-loop Inv-propagating μ-propagating → tie.Then2 Inv-loop μ-loop Inv-propagating μ-propagating
 at-next c = c .before .before .before .before .before .before .before .before .before .before .before .before
 
-read-on : (c : tie.After-next Inv-loop μ-loop Inv-propagating μ-propagating) (next : Next (book (at-next c)) (numbers (at-next c)) (place (at-next c)))
-    → ReadingOn (book (at-next c)) (numbers (at-next c)) (c .before .before .before .before .visit-clause .last .1 .0) (place (at-next c)) (c .next .given .0 .0) (next .run) (reading-at (c .before .before .before .before .before .before) next .1)
+read-on : (c : tie.After-next Inv-loop μ-loop Inv-propagating μ-propagating) →
+    let after-visit-clause = c .before .before .before .before in
+    (next : Next (book (at-next c)) (numbers (at-next c)) (place (at-next c)))
+    → ReadingOn (book (at-next c)) (numbers (at-next c)) (after-visit-clause .visit-clause .last .1 .0) (place (at-next c)) (c .next .given .0 .0) (next .run) (reading-at (after-visit-clause .before .before) next .1)
 read-on c next =
-    let p = reading-at (c .before .before .before .before .before .before) next in
-    reading-on-next (book (at-next c)) (p .0) (p .1) (start (at-next c) .pre .well) (p .2) (c .before .before .before .before .visit-clause .result) (visited-at (c .before .before .before .before) next)
+    let after-visit-clause = c .before .before .before .before in
+    let p = reading-at (after-visit-clause .before .before) next in
+    reading-on-next (book (at-next c)) (p .0) (p .1) (start (at-next c) .pre .well) (p .2) (after-visit-clause .visit-clause .result) (visited-at after-visit-clause next)
     (c .next .given .0 .0) (c .next .given .1)
 
 loop-less : tie.Need-loop-less Inv-loop μ-loop Inv-propagating μ-propagating
 loop-less c =
-    let here = c .before .before .before .before .before .before .before .before .before .before .before .before .before in
+    let then3 = c .before .before .before .before .before .before .before in
+    let here = at-then3 then3 in
     let next = next-at here in
-    let p = reading-at (c .before .before .before .before .before .before .before) next in
+    let p = reading-at then3 next in
     let now = reading-on-left (book here) (p .0 ∷ p .1) (variables here) (clauses here) (start here .pre .well) (variables-are here) (clauses-are here) (p .2) in
     let later = reading-on-left (book here) (p .1) (variables here) (clauses here) (start here .pre .well) (variables-are here) (clauses-are here) (read-on (c .before) next) in
     omega arith
 
 loop-again : tie.Need-loop-again Inv-loop μ-loop Inv-propagating μ-propagating
 loop-again c =
-    λ next. (reading-at (c .before .before .before .before .before .before .before) next .1, read-on (c .before) next)
+    let then3 = c .before .before .before .before .before .before .before in
+    λ next. (reading-at then3 next .1, read-on (c .before) next)
 
 enum-told : tie.Need-enum-told Inv-loop μ-loop Inv-propagating μ-propagating
 enum-told c = search needs
 
+abbrev then2-of-else3 : tie.Else3 Inv-loop μ-loop Inv-propagating μ-propagating → tie.Then2 Inv-loop μ-loop Inv-propagating μ-propagating
+then2-of-else3 c = c .before .before .before .before .before .before
+
 add-at : tie.Need-add-at Inv-loop μ-loop Inv-propagating μ-propagating
 add-at c =
-    let here = c .before .before .before .before .before .before in
+    let here = then2-of-else3 c in
     omega (arith, next-below _ (next-at here), limited here .variables)
 
 propagating-less : tie.Need-propagating-less Inv-loop μ-loop Inv-propagating μ-propagating
 propagating-less c =
-    let here = c .before .before .before .before .before .before in
+    let here = then2-of-else3 c in
     omega (arith, next-below _ (next-at here), variables-are here)
 
 propagating-again : tie.Need-propagating-again Inv-loop μ-loop Inv-propagating μ-propagating
 propagating-again c =
-    let here = c .before .before .before .before .before .before in
+    let here = then2-of-else3 c in
     λ begun.
-    let s = c .before .before .before .before .before .before .before .before .before .propagating .inv begun in
+    let s = here .before .before .before .propagating .inv begun in
     let next = propagating-next (book here) (start here .pre .well) s (more-at here) in
     fixpoint-more (book here) (start here .pre .well) s (more-at here)
     (reading-on-none (book here) (c .before .before .loop .inv next) (c .if3 .left))
 
 same-length : tie.Need-same-length Inv-loop μ-loop Inv-propagating μ-propagating
 same-length c =
-    c .before .before .before .propagating .inv (c .before .before .before .before .before .before .before .before .before .before .pre) .becomes .same-length
+    let entry = c .before .before .before .before .before .before .before .before .before .before in
+    c .before .before .before .propagating .inv (entry .pre) .becomes .same-length
 
 returns-2 : tie.Need-returns-2 Inv-loop μ-loop Inv-propagating μ-propagating
 returns-2 c =
-    λ at. propagating-ends (c .before .before .before .before .before .before .before .before .before .before .args .book .now) (c .before .before .before .propagating .inv at) (omega (arith, c .if2 .left, c .before .wide .ensures))
+    let entry = c .before .before .before .before .before .before .before .before .before .before in
+    λ at. propagating-ends (entry .args .book .now) (c .before .before .before .propagating .inv at) (omega (arith, c .if2 .left, c .before .wide .ensures))
 
 abbrev at-enum-told : tie.After-enum-told Inv-loop μ-loop Inv-propagating μ-propagating → tie.Then2 Inv-loop μ-loop Inv-propagating μ-propagating
 at-enum-told c = c .before .before .before .before .before .before .before .before .before .before .before .before
 
 -- a conflict
-ended-at : (c : tie.After-enum-told Inv-loop μ-loop Inv-propagating μ-propagating) (begun : Propagating (book (at-enum-told c)) (session (at-enum-told c)) (start (at-enum-told c) .args .handled))
-    → Becomes (book (at-enum-told c)) (session (at-enum-told c)) (c .before .before .before .before .visit-clause .last .1 .0) (propagate (formulaOf (book (at-enum-told c))) (start (at-enum-told c) .args .handled) (begun .run))
+ended-at : (c : tie.After-enum-told Inv-loop μ-loop Inv-propagating μ-propagating) →
+    let after-visit-clause = c .before .before .before .before in
+    (begun : Propagating (book (at-enum-told c)) (session (at-enum-told c)) (start (at-enum-told c) .args .handled))
+    → Becomes (book (at-enum-told c)) (session (at-enum-told c)) (after-visit-clause .visit-clause .last .1 .0) (propagate (formulaOf (book (at-enum-told c))) (start (at-enum-told c) .args .handled) (begun .run))
 ended-at c begun =
-    let s = c .before .before .before .before .before .before .before .before .before .before .before .before .before .before .before .propagating .inv begun in
+    let after-visit-clause = c .before .before .before .before in
+    let at-propagating = after-visit-clause .before .before .before .before .before .before .before .before .before .before .before in
+    let s = at-propagating .propagating .inv begun in
     let next = propagating-next (book (at-enum-told c)) (start (at-enum-told c) .pre .well) s (more-at (at-enum-told c)) in
-    let p = reading-at (c .before .before .before .before .before .before) next in
-    let e = reading-on-conflict (book (at-enum-told c)) (p .0) (p .1) (start (at-enum-told c) .pre .well) (p .2) (c .before .before .before .before .visit-clause .result) (visited-at (c .before .before .before .before) next) (c .enum-told .given .1) in
+    let p = reading-at (after-visit-clause .before .before) next in
+    let e = reading-on-conflict (book (at-enum-told c)) (p .0) (p .1) (start (at-enum-told c) .pre .well) (p .2) (after-visit-clause .visit-clause .result) (visited-at after-visit-clause next) (c .enum-told .given .1) in
     propagating-conflict (book (at-enum-told c)) (start (at-enum-told c) .pre .well) s (more-at (at-enum-told c)) (e .0) (e .1)
 
 same-length-2 : tie.Need-same-length-2 Inv-loop μ-loop Inv-propagating μ-propagating
 same-length-2 c =
-    ended-at c (start (c .before .before .before .before .before .before .before .before .before .before .before .before) .pre) .same-length
+    let then2 = at-enum-told c in
+    ended-at c (start then2 .pre) .same-length
 
 returns-3 : tie.Need-returns-3 Inv-loop μ-loop Inv-propagating μ-propagating
 returns-3 c = ended-at c

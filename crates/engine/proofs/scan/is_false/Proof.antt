@@ -19,20 +19,23 @@ enum-told-3 c = search needs
 
 returns : tie.Need-returns
 returns c trail reads =
-    sym (reads-says (c .before .before .before .before .args .values .now) trail (c .before .before .before .before .args .literal) reads
-    (c .before .before .before .before .pre .0) (c .before .before .before .before .pre .1) _
+    let entry = c .before .before .before .before in
+    sym (reads-says (entry .args .values .now) trail (entry .args .literal) reads
+    (entry .pre .0) (entry .pre .1) _
     (sym (c .enum-told .given .1) ∙ c .before .before .value-of .ensures) .1)
 
 returns-2 : tie.Need-returns-2
 returns-2 c trail reads =
-    sym (reads-says (c .before .before .before .before .args .values .now) trail (c .before .before .before .before .args .literal) reads
-    (c .before .before .before .before .pre .0) (c .before .before .before .before .pre .1) _
+    let entry = c .before .before .before .before in
+    sym (reads-says (entry .args .values .now) trail (entry .args .literal) reads
+    (entry .pre .0) (entry .pre .1) _
     (sym (c .enum-told2 .given .1) ∙ c .before .before .value-of .ensures) .1)
 
 returns-3 : tie.Need-returns-3
 returns-3 c trail reads =
-    sym (reads-says (c .before .before .before .before .args .values .now) trail (c .before .before .before .before .args .literal) reads
-    (c .before .before .before .before .pre .0) (c .before .before .before .before .pre .1) _
+    let entry = c .before .before .before .before in
+    sym (reads-says (entry .args .values .now) trail (entry .args .literal) reads
+    (entry .pre .0) (entry .pre .1) _
     (sym (c .enum-told3 .given .1) ∙ c .before .before .value-of .ensures) .1)
 
 pub is-false-spec : {M : Type 1} → statement M

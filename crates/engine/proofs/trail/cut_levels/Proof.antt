@@ -32,26 +32,31 @@ slice-read-if1 c = omega (arith, c .before .loop .inv .0 .same-length)
 
 unassign-requires : tie.Need-unassign-requires Inv-loop μ-loop
 unassign-requires c κs =
-    let start = c .before .before .before .before .before .before .pre in
+    let entry = c .before .before .before .before .before .before in
+    let start = entry .pre in
     let at = c .before .before .before .loop .inv in
     let step = shortening-step (at .0) (start .0) (at .1 (start .1 .0) (start .1 .1)) (c .before .if1 .taken) in
     (fits-still (start .0) (at .0), step .last)
 
 loop-less : tie.Need-loop-less Inv-loop μ-loop
 loop-less c =
-    let start = c .before .before .before .before .before .before .before .before .before .pre in
-    let at = c .before .before .before .before .before .before .loop .inv in
-    let step = shortening-step (at .0) (start .0) (at .1 (start .1 .0) (start .1 .1)) (c .before .before .before .before .if1 .taken) in
+    let then1 = c .before .before .before .before in
+    let entry = then1 .before .before .before .before .before in
+    let start = entry .pre in
+    let at = then1 .before .before .loop .inv in
+    let step = shortening-step (at .0) (start .0) (at .1 (start .1 .0) (start .1 .1)) (then1 .if1 .taken) in
     rw (c .before .before .unassign .ensures) (step .less)
 
 loop-again : tie.Need-loop-again Inv-loop μ-loop
 loop-again c =
-    let start = c .before .before .before .before .before .before .before .before .before .pre in
-    let at = c .before .before .before .before .before .before .loop .inv in
-    let step = shortening-step (at .0) (start .0) (at .1 (start .1 .0) (start .1 .1)) (c .before .before .before .before .if1 .taken) in
+    let then1 = c .before .before .before .before in
+    let entry = then1 .before .before .before .before .before in
+    let start = entry .pre in
+    let at = then1 .before .before .loop .inv in
+    let step = shortening-step (at .0) (start .0) (at .1 (start .1 .0) (start .1 .1)) (then1 .if1 .taken) in
     rw (c .before .before .unassign .ensures) (
       beside-compose (at .0) (step .beside),
-      λ trail cutting. shortening-step (at .0) (start .0) (at .1 trail cutting) (c .before .before .before .before .if1 .taken) .shortening,
+      λ trail cutting. shortening-step (at .0) (start .0) (at .1 trail cutting) (then1 .if1 .taken) .shortening,
     )
 
 same-length : tie.Need-same-length Inv-loop μ-loop

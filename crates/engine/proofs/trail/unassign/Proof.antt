@@ -60,9 +60,13 @@ slice-write-session-4 c = simp length-set (omega arith)
 abbrev start : (c : tie.After-levels-at) → tie.Start
 start c = c .before .before .before .before .before .before .before
 
-last-literal : (c : tie.After-levels-at) → getD (start c .args .session .now) (trailAt + c .before .before .before .before .wide .result) 0
+last-literal : (c : tie.After-levels-at) →
+    let after-wide = c .before .before .before .before in
+    getD (start c .args .session .now) (trailAt + after-wide .wide .result) 0
     ≡ getD (start c .args .session .now) (trailAt + (getD (start c .args .session .now) lengthAt 0 - 1)) 0
-last-literal c = ap (λ (i : ℕ). getD (start c .args .session .now) (trailAt + i) 0) (c .before .before .before .before .wide .ensures)
+last-literal c =
+    let after-wide = c .before .before .before .before in
+    ap (λ (i : ℕ). getD (start c .args .session .now) (trailAt + i) 0) (after-wide .wide .ensures)
 
 value-slot-requires : tie.Need-value-slot-requires
 value-slot-requires c κs = (omega arith, omega (arith, last-literal c))
@@ -77,7 +81,9 @@ same-length : tie.Need-same-length
 same-length c = search needs
 
 returns : tie.Need-returns
-returns c = rw (c .before .before .level-before .ensures, c .value-slot .ensures, c .before .levels-at .ensures, c .before .before .before .before .before .wide .ensures)
+returns c =
+    let after-wide = c .before .before .before .before .before in
+    rw (c .before .before .level-before .ensures, c .value-slot .ensures, c .before .levels-at .ensures, after-wide .wide .ensures)
 
 pub unassign-spec : {M : Type 1} → statement M
 unassign-spec =

@@ -78,7 +78,9 @@ abbrev at-wide2 : tie.After-wide2 → tie.After-clause-start2
 at-wide2 c = c .before .before .before .before .before .before
 
 second-is : (c : tie.After-wide2) → c .wide2 .result ≡ getD (session (at-wide2 c)) (watchesAt (variablesOf (book (at-wide2 c))) + 2 * start (at-wide2 c) .args .c + 1) 0
-second-is c = c .wide2 .ensures ∙ ap (λ (x : ℕ). getD (session (at-wide2 c)) x 0) (omega (arith, c .before .before .before .before .watches-at .ensures, variables-are (at-wide2 c)))
+second-is c =
+    let after-watches-at = c .before .before .before .before in
+    c .wide2 .ensures ∙ ap (λ (x : ℕ). getD (session (at-wide2 c)) x 0) (omega (arith, after-watches-at .watches-at .ensures, variables-are (at-wide2 c)))
 
 abbrev at-wide3 : tie.After-wide3 → tie.After-clause-start2
 at-wide3 c = c .before .before .before .before .before .before .before .before .before
@@ -110,49 +112,75 @@ wide-requires : tie.Need-wide-requires
 wide-requires c κs = search needs
 
 mul-wide-3 : tie.Need-mul-wide-3
-mul-wide-3 c = let f = fits (c .before .before .before .before) in omega arith
+mul-wide-3 c =
+    let here = at-wide c in
+    let f = fits here in omega arith
 
 add-wide-2 : tie.Need-add-wide-2
-add-wide-2 c = let f = fits (c .before .before .before .before) in omega arith
+add-wide-2 c =
+    let here = at-wide c in
+    let f = fits here in omega arith
 
 add-wide-3 : tie.Need-add-wide-3
-add-wide-3 c = let f = fits (c .before .before .before .before) in omega arith
+add-wide-3 c =
+    let here = at-wide c in
+    let f = fits here in omega arith
 
 mul-wide-4 : tie.Need-mul-wide-4
-mul-wide-4 c = let f = fits (c .before .before .before .before) in omega arith
+mul-wide-4 c =
+    let here = at-wide c in
+    let f = fits here in omega arith
 
 shared-slice-read-wide-2 : tie.Need-shared-slice-read-wide-2
-shared-slice-read-wide-2 c = let f = fits (c .before .before .before .before .before) in omega arith
+shared-slice-read-wide-2 c =
+    let here = c .before .before .before .before .before in
+    let f = fits here in omega arith
 
 wide-requires-2 : tie.Need-wide-requires-2
 wide-requires-2 c κs = search needs
 
 pointers-at-requires : tie.Need-pointers-at-requires
-pointers-at-requires c κs = let f = fits (c .before .before .before .before .before .before) in (omega arith, omega arith)
+pointers-at-requires c κs =
+    let here = at-wide2 c in
+    let f = fits here in (omega arith, omega arith)
 
 add-wide-4 : tie.Need-add-wide-4
-add-wide-4 c = let f = fits (c .before .before .before .before .before .before .before) in omega arith
+add-wide-4 c =
+    let here = c .before .before .before .before .before .before .before in
+    let f = fits here in omega arith
 
 mul-wide-5 : tie.Need-mul-wide-5
-mul-wide-5 c = let f = fits (c .before .before .before .before .before .before .before) in omega arith
+mul-wide-5 c =
+    let here = c .before .before .before .before .before .before .before in
+    let f = fits here in omega arith
 
 shared-slice-read-wide-3 : tie.Need-shared-slice-read-wide-3
-shared-slice-read-wide-3 c = let f = fits (c .before .before .before .before .before .before .before .before) in omega arith
+shared-slice-read-wide-3 c =
+    let here = c .before .before .before .before .before .before .before .before in
+    let f = fits here in omega arith
 
 wide-requires-3 : tie.Need-wide-requires-3
 wide-requires-3 c κs = search needs
 
 mul-scan-clause : tie.Need-mul-scan-clause
-mul-scan-clause c = let e = ends (c .before .before .before .before .before .before .before .before .before) in omega arith
+mul-scan-clause c =
+    let here = at-wide3 c in
+    let e = ends here in omega arith
 
 sub-scan-clause : tie.Need-sub-scan-clause
-sub-scan-clause c = ends (c .before .before .before .before .before .before .before .before .before) .0
+sub-scan-clause c =
+    let here = at-wide3 c in
+    ends here .0
 
 part-scan-clause-start : tie.Need-part-scan-clause-start
-part-scan-clause-start c = let e = ends (c .before .before .before .before .before .before .before .before .before) in omega arith
+part-scan-clause-start c =
+    let here = at-wide3 c in
+    let e = ends here in omega arith
 
 part-scan-clause-end : tie.Need-part-scan-clause-end
-part-scan-clause-end c = let e = ends (c .before .before .before .before .before .before .before .before .before) in omega arith
+part-scan-clause-end c =
+    let here = at-wide3 c in
+    let e = ends here in omega arith
 
 mul-scan-clause-2 : tie.Need-mul-scan-clause-2
 mul-scan-clause-2 c = search needs
@@ -168,13 +196,19 @@ part-scan-clause-end-2 c = search needs
 
 scan-clause-requires : tie.Need-scan-clause-requires
 scan-clause-requires c κs =
-    let here = c .before .before .before .before .before .before .before .before .before .before .before in
-    scanned-ready (start here .pre) _ _ (c .before .before .wide3 .result) (clause-is here) (values-are (c .before .before .before .before .before .before .before .before .before)) (pointer-is (c .before .before))
+    let after-wide3 = c .before .before in
+    let after-watches-at = after-wide3 .before .before .before .before .before .before .before in
+    let here = after-watches-at .before .before in
+    scanned-ready (start here .pre) _ _ (after-wide3 .wide3 .result) (clause-is here) (values-are after-watches-at) (pointer-is after-wide3)
 
 returns : tie.Need-returns
 returns c =
-    λ s. scanned-is s _ _ _ (c .before .before .before .before .before .before .before .before .wide .result) (c .before .before .before .before .before .before .wide2 .result) (c .before .before .before .wide3 .result) (clause-is (c .before .before .before .before .before .before .before .before .before .before .before .before)) (values-are (c .before .before .before .before .before .before .before .before .before .before))
-    (first-is (c .before .before .before .before .before .before .before .before)) (second-is (c .before .before .before .before .before .before)) (pointer-is (c .before .before .before)) (c .scan-clause .ensures)
+    let after-wide3 = c .before .before .before in
+    let after-wide2 = after-wide3 .before .before .before in
+    let after-wide = after-wide2 .before .before in
+    let here = at-wide after-wide in
+    λ s. scanned-is s _ _ _ (after-wide .wide .result) (after-wide2 .wide2 .result) (after-wide3 .wide3 .result) (clause-is here) (values-are (after-wide .before .before))
+    (first-is after-wide) (second-is after-wide2) (pointer-is after-wide3) (c .scan-clause .ensures)
 
 pub scan-at-spec : {M : Type 1} → statement M
 scan-at-spec =

@@ -29,7 +29,9 @@ clauses-requires : tie.Need-clauses-requires
 clauses-requires c κs = search needs
 
 clause-of-node-requires : tie.Need-clause-of-node-requires
-clause-of-node-requires c κs = spot-standing (c .before .before .before .before .pre .at) _ _ (c .before .variables .ensures) (c .clauses .ensures) .some
+clause-of-node-requires c κs =
+    let entry = c .before .before .before .before in
+    spot-standing (entry .pre .at) _ _ (c .before .variables .ensures) (c .clauses .ensures) .some
 
 -- the entry, and what is read of the book
 abbrev start : (c : tie.After-clause-of-node) → tie.Start

@@ -24,7 +24,9 @@ clauses-requires : tie.Need-clauses-requires
 clauses-requires c κs = search needs
 
 clause-of-node-requires : tie.Need-clause-of-node-requires
-clause-of-node-requires c κs = spot-standing (c .before .before .before .before .pre) _ _ (c .before .variables .ensures) (c .clauses .ensures) .some
+clause-of-node-requires c κs =
+    let entry = c .before .before .before .before in
+    spot-standing (entry .pre) _ _ (c .before .variables .ensures) (c .clauses .ensures) .some
 
 -- the entry, and what is read of the book
 abbrev start : (c : tie.After-clause-of-node) → tie.Start
@@ -137,8 +139,9 @@ shared-slice-read-other c =
 
 literal-value-requires : tie.Need-literal-value-requires
 literal-value-requires c κs =
-    let here = at-wide (c .before .before) in
-    let b = other-bounded (start here .pre) _ (other-at (c .before .before) (start here .pre) .1) in
+    let after-wide = c .before .before in
+    let here = at-wide after-wide in
+    let b = other-bounded (start here .pre) _ (other-at after-wide (start here .pre) .1) in
     (fits-trail (fits-at here), b .0, omega (arith, b .1, variables-are here))
 
 enum-told : tie.Need-enum-told

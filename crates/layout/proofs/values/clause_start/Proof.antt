@@ -22,13 +22,17 @@ mul-wide : tie.Need-mul-wide
 mul-wide c = omega (arith, well-formed-limited _ (c .before .before .before .pre .0))
 
 shared-slice-read-wide-2 : tie.Need-shared-slice-read-wide-2
-shared-slice-read-wide-2 c = omega (arith, well-formed-parted _ (c .before .before .before .before .pre .0) .long)
+shared-slice-read-wide-2 c =
+    let entry = c .before .before .before .before in
+    omega (arith, well-formed-parted _ (entry .pre .0) .long)
 
 wide-requires-2 : tie.Need-wide-requires-2
 wide-requires-2 c κs = search needs
 
 add-result-2 : tie.Need-add-result-2
-add-result-2 c = omega (arith, c .before .before .wide .ensures, c .wide2 .ensures, well-formed-limited _ (c .before .before .before .before .before .pre .0), start-within _ (well-formed-parted _ (c .before .before .before .before .before .pre .0)) _ (c .before .before .before .before .before .pre .1))
+add-result-2 c =
+    let entry = c .before .before .before .before .before in
+    omega (arith, c .before .before .wide .ensures, c .wide2 .ensures, well-formed-limited _ (entry .pre .0), start-within _ (well-formed-parted _ (entry .pre .0)) _ (entry .pre .1))
 
 returns : tie.Need-returns
 returns c = search needs

@@ -67,7 +67,9 @@ put-number-returns : (t : ℕ) → put-number-lts.Need-returns (
   put-number.Post,
 ) (put-number-at t) put-number.Post
 put-number-returns t c =
-    appends-as (ap (λ (d : ℕ). d ∷ []) (c .before .before .before .before .digit .ensures) ∙ sym (numeral-one (c .before .before .before .before .before .before .before .args .n) (c .before .before .before .before .before .if1 .taken))) (c .before .before .put .ensures)
+    let after-digit = c .before .before .before .before in
+    let entry = after-digit .before .before .before in
+    appends-as (ap (λ (d : ℕ). d ∷ []) (after-digit .digit .ensures) ∙ sym (numeral-one (entry .args .n) (after-digit .before .if1 .taken))) (c .before .before .put .ensures)
 
 put-number-put-number-requires : (t : ℕ) → put-number-lts.Need-put-number-requires (
   digit-reads.Asked,
@@ -118,11 +120,12 @@ put-number-returns-2 : (t : ℕ) → put-number-lts.Need-returns-2 (
   put-number.Post,
 ) (put-number-at t) put-number.Post
 put-number-returns-2 t c =
-    let n = c .before .before .before .before .before .before .before .before .before .before .before .args .n in
+    let after-digit2 = c .before .before .before .before in
+    let after-put-number = after-digit2 .before .before .before in
+    let n = after-put-number .before .before .before .before .args .n in
     appends-as
-    (ap (λ (d : ℕ). numeral (n / 10) ++ (d ∷ [])) (c .before .before .before .before .digit2 .ensures)
-    ∙ sym (numeral-more n (omega arith) (omega arith)))
-    (appends-both (c .before .before .before .before .before .before .before .put-number .ensures) (c .before .before .put2 .ensures))
+    (ap (λ (d : ℕ). numeral (n / 10) ++ (d ∷ [])) (after-digit2 .digit2 .ensures) ∙ sym (numeral-more n (omega arith) (omega arith)))
+    (appends-both (after-put-number .put-number .ensures) (c .before .before .put2 .ensures))
 
 pub +put-number-spec : {M : Type 1} → statement M
 +put-number-spec = close μ-put-number λ t. put-number-lts.spec (

@@ -13,7 +13,9 @@ abbrev μ-loop : tie.MeasureT-loop
 μ-loop bytes at out₀ end₀ i₀ out end i = length bytes - i
 
 loop-holds : tie.Need-loop-holds Inv-loop μ-loop
-loop-holds c = putting-none (c .before .before .args .bytes .now) (c .before .before .args .out .now) (c .before .before .args .at)
+loop-holds c =
+    let entry = c .before .before in
+    putting-none (entry .args .bytes .now) (entry .args .out .now) (entry .args .at)
 
 shared-slice-read-put : tie.Need-shared-slice-read-put Inv-loop μ-loop
 shared-slice-read-put c = search needs
@@ -28,13 +30,18 @@ loop-less : tie.Need-loop-less Inv-loop μ-loop
 loop-less c = search needs
 
 loop-again : tie.Need-loop-again Inv-loop μ-loop
-loop-again c = putting-more (c .before .before .before .before .before .before .before .before .before .args .bytes .now) (c .before .before .before .before .before .before .before .before .before .args .out .now) (c .before .before .before .before .before .before .before .before .before .args .at) _ _ (c .before .before .before .before .before .before .loop .i) _ _ (c .before .before .before .before .before .before .loop .inv) (search needs) (c .before .before .put .ensures)
+loop-again c =
+    let at-loop = c .before .before .before .before .before .before in
+    let entry = at-loop .before .before .before in
+    putting-more (entry .args .bytes .now) (entry .args .out .now) (entry .args .at) _ _ (at-loop .loop .i) _ _ (at-loop .loop .inv) (search needs) (c .before .before .put .ensures)
 
 same-length : tie.Need-same-length Inv-loop μ-loop
 same-length c = c .before .loop .inv .so-far .same-length
 
 returns : tie.Need-returns Inv-loop μ-loop
-returns c = putting-all (c .before .before .before .before .args .bytes .now) (c .before .before .before .before .args .out .now) (c .before .before .before .before .args .at) _ _ (c .before .loop .i) (c .before .loop .inv) (search needs)
+returns c =
+    let entry = c .before .before .before .before in
+    putting-all (entry .args .bytes .now) (entry .args .out .now) (entry .args .at) _ _ (c .before .loop .i) (c .before .loop .inv) (search needs)
 
 pub put-all-spec : {M : Type 1} → statement M
 put-all-spec =

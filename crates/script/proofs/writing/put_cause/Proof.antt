@@ -32,14 +32,19 @@ same-length c = search needs
 
 returns : tie.Need-returns
 unfolding bytes callWords
-returns c = appends-as (ap callWords (sym (c .before .before .before .before .before .enum-told .given .1))) (c .before .before .put-all .ensures)
+returns c =
+    let after-enum-told = c .before .before .before .before .before in
+    appends-as (ap callWords (sym (after-enum-told .enum-told .given .1))) (c .before .before .put-all .ensures)
 
 same-length-2 : tie.Need-same-length-2
 same-length-2 c = search needs
 
 returns-2 : tie.Need-returns-2
 unfolding bytes callWords
-returns-2 c = appends-as (ap callWords (sym (c .before .before .before .before .before .before .before .before .before .before .cause .given .1))) (appends-both (c .before .before .before .before .before .before .put-all2 .ensures) (c .before .before .put-literal .ensures))
+returns-2 c =
+    let after-put-all2 = c .before .before .before .before .before .before in
+    let after-cause = after-put-all2 .before .before .before .before in
+    appends-as (ap callWords (sym (after-cause .cause .given .1))) (appends-both (after-put-all2 .put-all2 .ensures) (c .before .before .put-literal .ensures))
 
 pub put-cause-spec : {M : Type 1} → statement M
 put-cause-spec =

@@ -15,7 +15,9 @@ abbrev μ-loop : tie.MeasureT-loop
 μ-loop literals at out₀ end₀ i₀ out end i = length literals - i
 
 loop-holds : tie.Need-loop-holds Inv-loop μ-loop
-loop-holds c = listing-none (c .before .before .args .literals .now) (c .before .before .args .out .now) (c .before .before .args .at)
+loop-holds c =
+    let entry = c .before .before in
+    listing-none (entry .args .literals .now) (entry .args .out .now) (entry .args .at)
 
 put-requires : tie.Need-put-requires Inv-loop μ-loop
 put-requires c κs = search needs
@@ -36,16 +38,22 @@ loop-less : tie.Need-loop-less Inv-loop μ-loop
 loop-less c = search needs
 
 loop-again : tie.Need-loop-again Inv-loop μ-loop
-loop-again c = listing-more _ _ _ _ _ _ _ _ (c .before .before .before .before .before .before .before .before .before .before .loop .inv) (search needs) (appends-both (c .before .before .before .before .before .before .before .put .ensures) (c .before .before .put-literal .ensures))
+loop-again c =
+    let after-put = c .before .before .before .before .before .before .before in
+    listing-more _ _ _ _ _ _ _ _ (after-put .before .before .before .loop .inv) (search needs) (appends-both (after-put .put .ensures) (c .before .before .put-literal .ensures))
 
 put-requires-2 : tie.Need-put-requires-2 Inv-loop μ-loop
 put-requires-2 c κs = search needs
 
 same-length : tie.Need-same-length Inv-loop μ-loop
-same-length c = c .before .before .put2 .ensures .same-length ∙ c .before .before .before .before .before .loop .inv .so-far .same-length
+same-length c =
+    let at-loop = c .before .before .before .before .before in
+    c .before .before .put2 .ensures .same-length ∙ at-loop .loop .inv .so-far .same-length
 
 returns : tie.Need-returns Inv-loop μ-loop
-returns c = listing-all _ _ _ _ _ _ _ _ (c .before .before .before .before .before .loop .inv) (search needs) (c .before .before .put2 .ensures)
+returns c =
+    let at-loop = c .before .before .before .before .before in
+    listing-all _ _ _ _ _ _ _ _ (at-loop .loop .inv) (search needs) (c .before .before .put2 .ensures)
 
 pub put-listed-spec : {M : Type 1} → statement M
 put-listed-spec =

@@ -22,7 +22,10 @@ same-length : tie.Need-same-length
 same-length c = search needs
 
 returns : tie.Need-returns
-returns c = appends-as (ap (λ (n : ℕ). 45 ∷ numeral n) (c .before .before .before .before .wide .ensures) ∙ sym (signed-negative (c .before .before .before .before .before .before .before .before .before .before .before .args .literal) (c .before .before .before .before .before .before .before .before .before .if1 .taken))) (appends-both (c .before .before .before .before .before .before .before .put .ensures) (c .before .before .put-number .ensures))
+returns c =
+    let after-wide = c .before .before .before .before in
+    let then1 = after-wide .before .before .before .before .before in
+    appends-as (ap (λ (n : ℕ). 45 ∷ numeral n) (after-wide .wide .ensures) ∙ sym (signed-negative (then1 .before .before .args .literal) (then1 .if1 .taken))) (appends-both (after-wide .before .before .before .put .ensures) (c .before .before .put-number .ensures))
 
 wide-requires-2 : tie.Need-wide-requires-2
 wide-requires-2 c κs = search needs
@@ -34,7 +37,9 @@ same-length-2 : tie.Need-same-length-2
 same-length-2 c = search needs
 
 returns-2 : tie.Need-returns-2
-returns-2 c = appends-as (ap numeral (c .before .before .before .before .wide2 .ensures) ∙ sym (signed-positive (c .before .before .before .before .before .before .before .args .literal) (c .before .before .before .before .before .if1 .left))) (c .before .before .put-number2 .ensures)
+returns-2 c =
+    let after-wide2 = c .before .before .before .before in
+    appends-as (ap numeral (after-wide2 .wide2 .ensures) ∙ sym (signed-positive (after-wide2 .before .before .before .args .literal) (after-wide2 .before .if1 .left))) (c .before .before .put-number2 .ensures)
 
 pub put-literal-spec : {M : Type 1} → statement M
 put-literal-spec =

@@ -18,10 +18,14 @@ loop-holds : tie.Need-loop-holds Inv-loop μ-loop
 loop-holds c = copied-none (c .args .source .now) (c .args .out .now)
 
 same-length : tie.Need-same-length Inv-loop μ-loop
-same-length c = length-copied (c .before .before .before .args .source .now) (c .before .before .before .args .out .now) _ _ (c .before .before .loop .inv)
+same-length c =
+    let entry = c .before .before .before in
+    length-copied (entry .args .source .now) (entry .args .out .now) _ _ (c .before .before .loop .inv)
 
 returns : tie.Need-returns Inv-loop μ-loop
-returns c = copied-full (c .before .before .before .args .source .now) (c .before .before .before .args .out .now) _ _ (c .before .before .loop .inv) (omega (arith, c .if1 .taken, length-copied (c .before .before .before .args .source .now) (c .before .before .before .args .out .now) _ _ (c .before .before .loop .inv)))
+returns c =
+    let at-loop = c .before .before in
+    copied-full (at-loop .before .args .source .now) (at-loop .before .args .out .now) _ _ (at-loop .loop .inv) (omega (arith, c .if1 .taken, length-copied (at-loop .before .args .source .now) (at-loop .before .args .out .now) _ _ (at-loop .loop .inv)))
 
 mul-out : tie.Need-mul-out Inv-loop μ-loop
 mul-out c = omega (arith, c .before .before .before .good)
@@ -29,8 +33,12 @@ mul-out c = omega (arith, c .before .before .before .good)
 shared-slice-read-out : tie.Need-shared-slice-read-out Inv-loop μ-loop
 shared-slice-read-out c = search needs
 
+-- the entry
+abbrev start : (c : tie.After-shared-slice-known Inv-loop μ-loop) → tie.Start Inv-loop μ-loop
+start c = c .before .before .before .before
+
 mul-out-2 : tie.Need-mul-out-2 Inv-loop μ-loop
-mul-out-2 c = omega (arith, c .before .before .before .before .good)
+mul-out-2 c = omega (arith, start c .good)
 
 slice-write-out : tie.Need-slice-write-out Inv-loop μ-loop
 slice-write-out c = search needs
@@ -41,18 +49,20 @@ add-i c = search needs
 loop-less : tie.Need-loop-less Inv-loop μ-loop
 loop-less c = search needs
 
--- the entry
-abbrev start : (c : tie.After-shared-slice-known Inv-loop μ-loop) → tie.Start Inv-loop μ-loop
-start c = c .before .before .before .before
-
 loop-again : tie.Need-loop-again Inv-loop μ-loop
-loop-again c = copied-more (start c .args .source .now) (start c .args .out .now) _ (c .before .before .before .loop .i) (c .before .before .before .loop .inv) (search needs) (omega (arith, c .before .if1 .left, length-copied (start c .args .source .now) (start c .args .out .now) _ _ (c .before .before .before .loop .inv)))
+loop-again c =
+    let at-loop = c .before .before .before in
+    copied-more (start c .args .source .now) (start c .args .out .now) _ (at-loop .loop .i) (at-loop .loop .inv) (search needs) (omega (arith, c .before .if1 .left, length-copied (start c .args .source .now) (start c .args .out .now) _ _ (at-loop .loop .inv)))
 
 same-length-2 : tie.Need-same-length-2 Inv-loop μ-loop
-same-length-2 c = length-copied (c .before .before .args .source .now) (c .before .before .args .out .now) _ _ (c .before .loop .inv)
+same-length-2 c =
+    let entry = c .before .before in
+    length-copied (entry .args .source .now) (entry .args .out .now) _ _ (c .before .loop .inv)
 
 returns-2 : tie.Need-returns-2 Inv-loop μ-loop
-returns-2 c = copied-all (c .before .before .args .source .now) (c .before .before .args .out .now) _ _ (c .before .loop .inv) (search needs)
+returns-2 c =
+    let entry = c .before .before in
+    copied-all (entry .args .source .now) (entry .args .out .now) _ _ (c .before .loop .inv) (search needs)
 
 pub copy-spec : {M : Type 1} → statement M
 copy-spec =

@@ -26,7 +26,9 @@ wide-requires : tie.Need-wide-requires Inv-loop μ-loop
 wide-requires c κs = tt
 
 add-sum : tie.Need-add-sum Inv-loop μ-loop
-add-sum c = omega (arith, c .wide .ensures, c .before .shared-slice-known2 .given (c .before .before .before .loop .i), c .before .before .before .loop .inv .small, c .before .before .before .before .before .pre)
+add-sum c =
+    let at-loop = c .before .before .before in
+    omega (arith, c .wide .ensures, c .before .shared-slice-known2 .given (at-loop .loop .i), at-loop .loop .inv .small, at-loop .before .before .pre)
 
 add-i : tie.Need-add-i Inv-loop μ-loop
 add-i c = search needs
@@ -35,7 +37,9 @@ loop-less : tie.Need-loop-less Inv-loop μ-loop
 loop-less c = search needs
 
 loop-again : tie.Need-loop-again Inv-loop μ-loop
-loop-again c = summed-more (c .before .before .before .before .before .args .numbers .now) _ (c .before .before .before .loop .i) _ (c .before .before .before .loop .inv) (search needs) (c .wide .ensures) (omega (arith, c .wide .ensures, c .before .shared-slice-known2 .given (c .before .before .before .loop .i)))
+loop-again c =
+    let at-loop = c .before .before .before in
+    summed-more (at-loop .before .before .args .numbers .now) _ (at-loop .loop .i) _ (at-loop .loop .inv) (search needs) (c .wide .ensures) (omega (arith, c .wide .ensures, c .before .shared-slice-known2 .given (at-loop .loop .i)))
 
 returns : tie.Need-returns Inv-loop μ-loop
 returns c = summed-all (c .before .before .before .args .numbers .now) _ _ (c .before .loop .inv) (search needs)

@@ -37,10 +37,14 @@ clauses-requires : tie.Need-clauses-requires Inv-loop μ-loop
 clauses-requires c κs = tt
 
 watches-at-requires : tie.Need-watches-at-requires Inv-loop μ-loop
-watches-at-requires c κs = omega (arith, well-formed-limited _ (c .before .before .before .before .pre .well))
+watches-at-requires c κs =
+    let entry = c .before .before .before .before in
+    omega (arith, well-formed-limited _ (entry .pre .well))
 
 pointers-at-requires : tie.Need-pointers-at-requires Inv-loop μ-loop
-pointers-at-requires c κs = omega (arith, well-formed-limited _ (c .before .before .before .before .before .pre .well))
+pointers-at-requires c κs =
+    let entry = c .before .before .before .before .before in
+    omega (arith, well-formed-limited _ (entry .pre .well))
 
 loop-holds : tie.Need-loop-holds Inv-loop μ-loop
 loop-holds c =

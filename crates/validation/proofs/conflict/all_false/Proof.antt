@@ -34,9 +34,10 @@ shared-slice-read-opposite c = omega arith
 
 opposite-requires : tie.Need-opposite-requires Inv-loop μ-loop
 opposite-requires c κs =
-    let start = c .before .before .before .before .before in
-    let less : c .before .before .loop .i < length (start .args .clause .now) = omega arith in
-    omega (arith, literal-parts _ _ (sound-within _ _ (start .pre .1) (c .before .before .loop .i) less))
+    let at-loop = c .before .before in
+    let start = at-loop .before .before .before in
+    let less : at-loop .loop .i < length (start .args .clause .now) = omega arith in
+    omega (arith, literal-parts _ _ (sound-within _ _ (start .pre .1) (at-loop .loop .i) less))
 
 place-of-requires : tie.Need-place-of-requires Inv-loop μ-loop
 place-of-requires c κs =
@@ -45,8 +46,9 @@ place-of-requires c κs =
 
 -- the place of the opposite
 against : (c : tie.After-place-of Inv-loop μ-loop) →
-    let args = c .before .before .before .before .before .before .before .args in
-    let literal = getD (args .clause .now) (c .before .before .before .before .loop .i) 0 in
+    let at-loop = c .before .before .before .before in
+    let args = at-loop .before .before .before .args in
+    let literal = getD (args .clause .now) (at-loop .loop .i) 0 in
     c .place-of .result ≡ place (trailOf (args .variables) (args .session .now)) (opposite literal)
 against c =
     let start = c .before .before .before .before .before .before .before in
@@ -67,10 +69,11 @@ loop-less : tie.Need-loop-less Inv-loop μ-loop
 loop-less c = omega arith
 
 loop-again : tie.Need-loop-again Inv-loop μ-loop
-loop-again c = (
-  omega arith,
-  below-more _ _ (c .before .before .before .before .before .loop .inv .1) (false-there _ _ _ (against (c .before)) (c .if1 .left)),
-)
+loop-again c =
+    let at-loop = c .before .before .before .before .before in (
+      omega arith,
+      below-more _ _ (at-loop .loop .inv .1) (false-there _ _ _ (against (c .before)) (c .if1 .left)),
+    )
 
 returns-2 : tie.Need-returns-2 Inv-loop μ-loop
 returns-2 c = says-true (at-members _ _ (λ i h. c .before .loop .inv .1 i (omega arith)))

@@ -14,7 +14,9 @@ shared-slice-read-height-of : tie.Need-shared-slice-read-height-of
 shared-slice-read-height-of c = omega arith
 
 height-of-requires : tie.Need-height-of-requires
-height-of-requires c κs = let start = c .before .before .before .before in (start .pre .0, sound-within _ _ (start .pre .1 .0) 0 (omega arith))
+height-of-requires c κs =
+    let start = c .before .before .before .before in
+    (start .pre .0, sound-within _ _ (start .pre .1 .0) 0 (omega arith))
 
 returns : tie.Need-returns
 returns c = unit-fixpoint _ _ _ _ _ (omega arith) (c .height-of .ensures)
@@ -22,14 +24,22 @@ returns c = unit-fixpoint _ _ _ _ _ (omega arith) (c .height-of .ensures)
 returns-2 : tie.Need-returns-2
 returns-2 c = says-true (none-fixpoint _ _ _ _ (omega arith) (λ one. omega arith))
 
+abbrev entry-of-else2 : tie.Else2 → tie.Start
+entry-of-else2 c = c .before .before .before .before
+
 -- the clause has two literals or more, and the watches are positions in it
-two-at : (c : tie.Else2) → 2 ≤ length (c .before .before .before .before .args .clause .now)
+two-at : (c : tie.Else2) →
+    let entry = entry-of-else2 c in
+    2 ≤ length (entry .args .clause .now)
 two-at c = omega arith
 
 within-at : (c : tie.Else2) →
-    let args = c .before .before .before .before .args in
+    let entry = entry-of-else2 c in
+    let args = entry .args in
     (args .first < length (args .clause .now)) × (args .second < length (args .clause .now))
-within-at c = c .before .before .before .before .pre .1 .1 (two-at c)
+within-at c =
+    let entry = entry-of-else2 c in
+    entry .pre .1 .1 (two-at c)
 
 mul-a : tie.Need-mul-a
 mul-a c = omega (arith, within-at c)
@@ -56,13 +66,15 @@ guards-requires c κs =
 
 returns-3 : tie.Need-returns-3
 returns-3 c =
-    let two = two-at (c .before .before .before .before) in
+    let else2 = c .before .before .before .before in
+    let two = two-at else2 in
     says-false (λ s. c .before .guards .ensures .no (not-true _ (c .if3 .taken)) (fixpoint-forth _ _ _ _ _ _ two refl refl s))
 
 guards-requires-2 : tie.Need-guards-requires-2
 guards-requires-2 c κs =
-    let start = c .before .before .before .before .before .before .before .before in
-    let within = within-at (c .before .before .before .before) in (
+    let else2 = c .before .before .before .before in
+    let start = entry-of-else2 else2 in
+    let within = within-at else2 in (
       start .pre .0,
       (
         sound-within _ _ (start .pre .1 .0) (start .args .second) (within .1),
@@ -72,7 +84,8 @@ guards-requires-2 c κs =
 
 returns-4 : tie.Need-returns-4
 returns-4 c =
-    let two = two-at (c .before .before .before .before .before) in
+    let else2 = c .before .before .before .before .before in
+    let two = two-at else2 in
     says-alike (pair-fixpoint _ _ _ _ _ _ two refl refl (c .before .before .guards .ensures .yes (not-false _ (c .before .if3 .left))))
     (fixpoint-back _ _ _ _ _ _ two refl refl) (c .guards2 .ensures)
 

@@ -39,12 +39,15 @@ clauses-requires : tie.Need-clauses-requires Inv-loop μ-loop
 clauses-requires c κs = tt
 
 watches-at-requires : tie.Need-watches-at-requires Inv-loop μ-loop
-watches-at-requires c κs = omega (arith, passed-fits _ _ (c .before .before .before .before .pre .0))
+watches-at-requires c κs =
+    let entry = c .before .before .before .before in
+    omega (arith, passed-fits _ _ (entry .pre .0))
 
 loop-holds : tie.Need-loop-holds Inv-loop μ-loop
 loop-holds c =
+    let entry = c .before .before .before .before .before in
     let room : Room _ _ _ _ =
-    record { variables-are = c .before .before .variables .ensures; clauses-are = c .before .clauses .ensures; fits = passed-fits _ _ (c .before .before .before .before .before .pre .0) } in
+    record { variables-are = c .before .before .variables .ensures; clauses-are = c .before .clauses .ensures; fits = passed-fits _ _ (entry .pre .0) } in
     (room, c .watches-at .ensures, omega arith, λ k h. absurd (omega arith))
 
 clause-start-requires : tie.Need-clause-start-requires Inv-loop μ-loop
@@ -136,11 +139,12 @@ said : (c : tie.After-clause-fixpoint Inv-loop μ-loop) →
     let args = start-of turn .args in
     Says (c .clause-fixpoint .result) (FixpointAt (args .book .now) (args .session .now) (args .below) (turn .loop .c))
 said c =
-    let clause = clause-of (c .before .before) in
+    let after-wide2 = c .before .before in
+    let clause = clause-of after-wide2 in
     let turn = turn-of clause .loop in
     let args = start-of (turn-of clause) .args in
     fixpoint-at (args .book .now) (args .session .now) (args .below) _ (turn .c) _ _ _ _ _ _ (turn .inv .0 .variables-are) (turn .inv .1)
-    (clause .before .clause-start .ensures) (clause .clause-start2 .ensures) (c .before .before .before .before .wide .ensures) (c .before .before .wide2 .ensures)
+    (clause .before .clause-start .ensures) (clause .clause-start2 .ensures) (after-wide2 .before .before .wide .ensures) (after-wide2 .wide2 .ensures)
     (c .clause-fixpoint .ensures)
 
 returns : tie.Need-returns Inv-loop μ-loop

@@ -16,7 +16,8 @@ opposite-requires c κs = omega (arith, literal-parts _ _ (c .before .pre .1 .0)
 
 height-of-requires : tie.Need-height-of-requires
 height-of-requires c κs =
-    (c .before .before .pre .0, rw (c .opposite .ensures) (opposite-within _ _ (c .before .before .pre .1 .0)))
+    let entry = c .before .before in
+    (entry .pre .0, rw (c .opposite .ensures) (opposite-within _ _ (entry .pre .1 .0)))
 
 -- the height of the opposite
 against : (c : tie.After-height-of) →
@@ -29,10 +30,14 @@ against c =
     ∙ ap (height (trailOn (start .args .variables) (start .args .session .now) (start .args .below))) (c .before .opposite .ensures)
 
 returns : tie.Need-returns
-returns c = says-true (guard-free _ _ (c .before .before .before .before .args .b) _ _ (against (c .before)) refl (c .if1 .taken))
+returns c =
+    let entry = c .before .before .before .before in
+    says-true (guard-free _ _ (entry .args .b) _ _ (against (c .before)) refl (c .if1 .taken))
 
 height-of-requires-2 : tie.Need-height-of-requires-2
-height-of-requires-2 c κs = let start = c .before .before .before .before in (start .pre .0, start .pre .1 .1)
+height-of-requires-2 c κs =
+    let start = c .before .before .before .before in
+    (start .pre .0, start .pre .1 .1)
 
 returns-2 : tie.Need-returns-2
 returns-2 c =

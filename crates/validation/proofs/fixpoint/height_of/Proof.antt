@@ -26,10 +26,14 @@ sub-level : tie.Need-sub-level
 sub-level c = omega arith
 
 add-level : tie.Need-add-level
-add-level c = omega (arith, place-small _ _ (start-of (c .before .before) .pre .0) _ _ (c .before .before .place-of .ensures))
+add-level c =
+    let after-place-of = c .before .before in
+    omega (arith, place-small _ _ (start-of after-place-of .pre .0) _ _ (after-place-of .place-of .ensures))
 
 mul-level : tie.Need-mul-level
-mul-level c = omega (arith, place-small _ _ (start-of (c .before .before) .pre .0) _ _ (c .before .before .place-of .ensures))
+mul-level c =
+    let after-place-of = c .before .before in
+    omega (arith, place-small _ _ (start-of after-place-of .pre .0) _ _ (after-place-of .place-of .ensures))
 
 shared-slice-read-level : tie.Need-shared-slice-read-level
 shared-slice-read-level c = omega (arith, place-small _ _ (start-of (read-of c) .pre .0) _ _ (read-of c .place-of .ensures))

@@ -37,12 +37,14 @@ wide-requires c κs = tt
 
 list-passes-requires : tie.Need-list-passes-requires Inv-loop μ-loop
 list-passes-requires c κs =
+    let entry = c .before .before .before .before .before .before .before in
     let through = c .before .before .before .loop .inv .4 in
-    (c .before .before .before .before .before .before .before .pre .0, ((omega arith, omega arith), (through .long, through-clean _ _ _ _ through)))
+    (entry .pre .0, ((omega arith, omega arith), (through .long, through-clean _ _ _ _ through)))
 
 returns : tie.Need-returns Inv-loop μ-loop
 returns c =
-    through-not _ _ _ _ (c .before .before .before .before .before .loop .inv .4) _ _ (not-true _ (c .if2 .taken)) (omega arith) (omega arith)
+    let at-loop = c .before .before .before .before .before in
+    through-not _ _ _ _ (at-loop .loop .inv .4) _ _ (not-true _ (c .if2 .taken)) (omega arith) (omega arith)
     (c .before .list-passes .ensures)
 
 add-literal : tie.Need-add-literal Inv-loop μ-loop
@@ -52,13 +54,14 @@ loop-less : tie.Need-loop-less Inv-loop μ-loop
 loop-less c = omega arith
 
 loop-again : tie.Need-loop-again Inv-loop μ-loop
-loop-again c = (
-  omega arith,
-  omega arith,
-  omega arith,
-  omega arith,
-  through-more _ _ _ _ (c .before .before .before .before .before .loop .inv .4) _ _ (not-false _ (c .if2 .left)) (c .before .list-passes .ensures),
-)
+loop-again c =
+    let at-loop = c .before .before .before .before .before in (
+      omega arith,
+      omega arith,
+      omega arith,
+      omega arith,
+      through-more _ _ _ _ (at-loop .loop .inv .4) _ _ (not-false _ (c .if2 .left)) (c .before .list-passes .ensures),
+    )
 
 returns-2 : tie.Need-returns-2 Inv-loop μ-loop
 returns-2 c = through-end _ _ _ _ (c .before .before .loop .inv .4) (omega arith)

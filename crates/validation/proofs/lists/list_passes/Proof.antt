@@ -39,10 +39,11 @@ shared-slice-read-node c = omega arith
 
 loop-holds : tie.Need-loop-holds Inv-loop μ-loop
 loop-holds c =
-    let start = c .before .before .before .before .before .before in (
-      room (start .pre .0) (c .before .before .before .variables .ensures) (c .before .before .clauses .ensures),
+    let after-clauses = c .before .before in
+    let start = after-clauses .before .before .before .before in (
+      room (start .pre .0) (after-clauses .before .variables .ensures) (after-clauses .clauses .ensures),
       walking-start _ _ _ _ (c .before .head-slot .result) (start .pre .1 .1 .0)
-          (omega (arith, c .before .head-slot .ensures, c .before .before .before .variables .ensures, c .before .before .clauses .ensures)),
+          (omega (arith, c .before .head-slot .ensures, after-clauses .before .variables .ensures, after-clauses .clauses .ensures)),
     )
 
 wide-requires : tie.Need-wide-requires Inv-loop μ-loop
@@ -88,17 +89,19 @@ shared-slice-read-node-2 c = omega arith
 
 loop-less : tie.Need-loop-less Inv-loop μ-loop
 loop-less c =
-    let place = place-of (c .before .before .before .before .before) in
+    let after-owner = c .before .before .before .before .before in
+    let place = place-of after-owner in
     let turn = place .before .before .loop in
     zeros-fewer (turn .marks) (place .wide .result) (omega (arith, turn .inv .1 .long)) (omega arith)
 
 loop-again : tie.Need-loop-again Inv-loop μ-loop
 loop-again c =
-    let place = place-of (c .before .before .before .before .before) in
+    let after-owner = c .before .before .before .before .before in
+    let place = place-of after-owner in
     let turn = place .before .before in (
       turn .loop .inv .0,
       list-walk-more _ _ _ _ _ _ (turn .loop .inv .1) (start-of turn .pre .1 .1 .1) (λ e. omega arith) (place .wide .result)
-          (c .before .link-slot .result) (place .wide .ensures) (omega arith) (omega arith) (omega (arith, c .before .before .before .before .before .owner .ensures)) (omega arith)
+          (c .before .link-slot .result) (place .wide .ensures) (omega arith) (omega arith) (omega (arith, after-owner .owner .ensures)) (omega arith)
           (omega (arith, c .before .link-slot .ensures)),
     )
 

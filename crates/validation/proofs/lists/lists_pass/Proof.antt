@@ -19,7 +19,9 @@ returns c =
     (c .before .all-lists-pass .ensures)
 
 nodes-pass-requires : tie.Need-nodes-pass-requires
-nodes-pass-requires c κs = let start = c .before .before .before .before .before .before in start .pre
+nodes-pass-requires c κs =
+    let start = c .before .before .before .before .before .before in
+    start .pre
 
 returns-2 : tie.Need-returns-2
 returns-2 c =

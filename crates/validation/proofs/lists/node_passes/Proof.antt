@@ -25,7 +25,8 @@ shared-slice-read-result c = search needs
 
 returns : tie.Need-returns
 returns c =
-    node-idle _ _ _ _ (c .before .link-slot .result) (omega (arith, c .before .before .before .before .before .owner .ensures))
+    let after-owner = c .before .before .before .before .before in
+    node-idle _ _ _ _ (c .before .link-slot .result) (omega (arith, after-owner .owner .ensures))
     (omega (arith, c .before .link-slot .ensures, c .before .before .before .variables .ensures, c .before .before .clauses .ensures))
 
 wide-requires : tie.Need-wide-requires

@@ -26,10 +26,14 @@ wide-requires : tie.Need-wide-requires Inv-loop μ-loop
 wide-requires c κs = tt
 
 node-passes-requires : tie.Need-node-passes-requires Inv-loop μ-loop
-node-passes-requires c κs = (c .before .before .before .before .before .before .pre, (omega arith, omega arith))
+node-passes-requires c κs =
+    let entry = c .before .before .before .before .before .before in
+    (entry .pre, (omega arith, omega arith))
 
 returns : tie.Need-returns Inv-loop μ-loop
-returns c = looked-not _ _ _ _ _ (c .before .before .before .before .loop .inv) _ (not-true _ (c .if2 .taken)) (omega arith) (c .before .node-passes .ensures)
+returns c =
+    let at-loop = c .before .before .before .before in
+    looked-not _ _ _ _ _ (at-loop .loop .inv) _ (not-true _ (c .if2 .taken)) (omega arith) (c .before .node-passes .ensures)
 
 add-node : tie.Need-add-node Inv-loop μ-loop
 add-node c = omega arith
@@ -38,7 +42,9 @@ loop-less : tie.Need-loop-less Inv-loop μ-loop
 loop-less c = omega arith
 
 loop-again : tie.Need-loop-again Inv-loop μ-loop
-loop-again c = looked-more _ _ _ _ _ (c .before .before .before .before .loop .inv) _ (not-false _ (c .if2 .left)) (omega arith) (c .before .node-passes .ensures)
+loop-again c =
+    let at-loop = c .before .before .before .before in
+    looked-more _ _ _ _ _ (at-loop .loop .inv) _ (not-false _ (c .if2 .left)) (omega arith) (c .before .node-passes .ensures)
 
 returns-2 : tie.Need-returns-2 Inv-loop μ-loop
 returns-2 c = looked-all _ _ _ _ _ (c .before .before .loop .inv) (omega arith)

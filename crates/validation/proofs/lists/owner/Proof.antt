@@ -28,7 +28,9 @@ add-clause-start : tie.Need-add-clause-start
 add-clause-start c = search needs
 
 clause-start-requires-2 : tie.Need-clause-start-requires-2
-clause-start-requires-2 c κs = (c .before .before .before .before .pre .0 .well, omega arith)
+clause-start-requires-2 c κs =
+    let entry = c .before .before .before .before in
+    (entry .pre .0 .well, omega arith)
 
 sub-if1 : tie.Need-sub-if1
 sub-if1 c =
@@ -41,9 +43,10 @@ sub-if1 c =
 returns : tie.Need-returns
 returns c =
     let clause = c .before in
+    let after-clause-of-node = clause .before .before in
     sym
-    (owner-none _ _ (start-of clause .pre .0) _ (clause .before .before .clause-of-node .result) (clause .before .clause-start .result)
-    (clause .clause-start2 .result) (omega arith) (omega arith) (clause .before .before .clause-of-node .ensures) (clause .before .clause-start .ensures)
+    (owner-none _ _ (start-of clause .pre .0) _ (after-clause-of-node .clause-of-node .result) (clause .before .clause-start .result)
+    (clause .clause-start2 .result) (omega arith) (omega arith) (after-clause-of-node .clause-of-node .ensures) (clause .before .clause-start .ensures)
     (clause .clause-start2 .ensures) (omega arith))
 
 variables-requires : tie.Need-variables-requires

@@ -19,7 +19,9 @@ opposite-requires : tie.Need-opposite-requires
 opposite-requires c κs = omega (arith, literal-parts _ _ (c .before .before .before .pre .1))
 
 place-of-requires-2 : tie.Need-place-of-requires-2
-place-of-requires-2 c κs = let start = c .before .before .before .before in (start .pre .0, rw (c .opposite .ensures) (opposite-within _ _ (start .pre .1)))
+place-of-requires-2 c κs =
+    let start = c .before .before .before .before in
+    (start .pre .0, rw (c .opposite .ensures) (opposite-within _ _ (start .pre .1)))
 
 -- the place of the opposite
 against : (c : tie.After-place-of2) →
@@ -31,12 +33,14 @@ against c =
 
 returns-2 : tie.Need-returns-2
 returns-2 c =
-    let here = c .before .before .before .before .place-of .ensures in
+    let after-place-of = c .before .before .before .before in
+    let here = after-place-of .place-of .ensures in
     says-false (before-not _ _ _ _ here _ (against (c .before)) (c .before .before .before .if1 .left) (λ some _. omega arith))
 
 returns-3 : tie.Need-returns-3
 returns-3 c =
-    let here = c .before .before .before .before .place-of .ensures in
+    let after-place-of = c .before .before .before .before in
+    let here = after-place-of .place-of .ensures in
     let there = against (c .before) in
     says-below _ _ (before-false _ _ _ _ here _ there (c .if2 .left))
     (λ high. before-not _ _ _ _ here _ there (c .before .before .before .if1 .left) (λ _ low. omega arith))

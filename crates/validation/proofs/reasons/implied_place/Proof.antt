@@ -19,10 +19,14 @@ abbrev μ-loop : tie.MeasureT-loop
 μ-loop clause session variables place i₀ i = length clause - i
 
 true-place-requires : tie.Need-true-place-requires Inv-loop μ-loop
-true-place-requires c κs = (c .before .before .pre .0, c .before .before .pre .1)
+true-place-requires c κs =
+    let entry = c .before .before in
+    (entry .pre .0, entry .pre .1)
 
 returns : tie.Need-returns Inv-loop μ-loop
-returns c = implied-none _ _ (c .before .before .before .before .pre .0 .good .once) _ (c .before .true-place .ensures) (c .if1 .taken)
+returns c =
+    let entry = c .before .before .before .before in
+    implied-none _ _ (entry .pre .0 .good .once) _ (c .before .true-place .ensures) (c .if1 .taken)
 
 loop-holds : tie.Need-loop-holds Inv-loop μ-loop
 loop-holds c = (omega arith, λ k h. absurd (omega arith))
@@ -52,10 +56,11 @@ loop-less : tie.Need-loop-less Inv-loop μ-loop
 loop-less c = omega arith
 
 loop-again : tie.Need-loop-again Inv-loop μ-loop
-loop-again c = (
-  omega arith,
-  below-more _ _ (c .before .before .before .before .loop .inv .1) (c .before .false-before .ensures .yes (not-false _ (c .if2 .left))),
-)
+loop-again c =
+    let at-loop = c .before .before .before .before in (
+      omega arith,
+      below-more _ _ (at-loop .loop .inv .1) (c .before .false-before .ensures .yes (not-false _ (c .if2 .left))),
+    )
 
 returns-3 : tie.Need-returns-3 Inv-loop μ-loop
 returns-3 c =

@@ -34,7 +34,9 @@ place-of-requires c κs =
     (start .pre .0, sound-within _ _ (start .pre .1) (c .before .before .loop .i) (omega arith))
 
 returns : tie.Need-returns Inv-loop μ-loop
-returns c = true-found _ _ (c .before .before .before .before .loop .i) _ (omega arith) (c .before .place-of .ensures) (c .if1 .taken)
+returns c =
+    let at-loop = c .before .before .before .before in
+    true-found _ _ (at-loop .loop .i) _ (omega arith) (c .before .place-of .ensures) (c .if1 .taken)
 
 mul-opposite : tie.Need-mul-opposite Inv-loop μ-loop
 mul-opposite c = omega arith
@@ -44,13 +46,15 @@ shared-slice-read-opposite c = omega arith
 
 opposite-requires : tie.Need-opposite-requires Inv-loop μ-loop
 opposite-requires c κs =
-    let start = c .before .before .before .before .before .before .before .before in
-    omega (arith, literal-parts _ _ (sound-within _ _ (start .pre .1) (c .before .before .before .before .before .loop .i) (omega arith)))
+    let at-loop = c .before .before .before .before .before in
+    let start = at-loop .before .before .before in
+    omega (arith, literal-parts _ _ (sound-within _ _ (start .pre .1) (at-loop .loop .i) (omega arith)))
 
 place-of-requires-2 : tie.Need-place-of-requires-2 Inv-loop μ-loop
 place-of-requires-2 c κs =
-    let start = c .before .before .before .before .before .before .before .before .before in
-    let within = sound-within _ _ (start .pre .1) (c .before .before .before .before .before .before .loop .i) (omega arith) in
+    let at-loop = c .before .before .before .before .before .before in
+    let start = at-loop .before .before .before in
+    let within = sound-within _ _ (start .pre .1) (at-loop .loop .i) (omega arith) in
     (start .pre .0, rw (c .opposite .ensures) (opposite-within _ _ within))
 
 returns-2 : tie.Need-returns-2 Inv-loop μ-loop
@@ -67,9 +71,9 @@ loop-less c = omega arith
 
 loop-again : tie.Need-loop-again Inv-loop μ-loop
 loop-again c =
-    let here = c .before .before .before .before .before .place-of in
-    let off : here .result ≡ 0 = omega arith in
-    (omega arith, below-more _ _ (c .before .before .before .before .before .before .before .before .loop .inv .1) (sym (here .ensures) ∙ off))
+    let here = c .before .before .before .before .before in
+    let off : here .place-of .result ≡ 0 = omega arith in
+    (omega arith, below-more _ _ (here .before .before .before .loop .inv .1) (sym (here .place-of .ensures) ∙ off))
 
 returns-3 : tie.Need-returns-3 Inv-loop μ-loop
 returns-3 c = true-none _ _ (λ i h. c .before .loop .inv .1 i (omega arith))

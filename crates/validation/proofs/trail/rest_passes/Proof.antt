@@ -47,8 +47,9 @@ shared-slice-read-if2 c = omega arith
 
 returns-2 : tie.Need-returns-2 Inv-loop μ-loop
 returns-2 c =
-    let turn = c .before .before .before .before .before .loop in
-    let args = c .before .before .before .before .before .before .before .before .args in
+    let at-loop = c .before .before .before .before .before in
+    let turn = at-loop .loop in
+    let args = at-loop .before .before .before .args in
     says-false
     (λ good.
     c .if2 .taken (read-at (args .session .now) (turn .inv .0) (turn .i) ∙ good (turn .i) (omega arith) (omega arith) .no-level))
@@ -61,8 +62,9 @@ loop-less c = omega arith
 
 loop-again : tie.Need-loop-again Inv-loop μ-loop
 loop-again c =
-    let turn = c .before .before .before .before .before .loop in
-    let args = c .before .before .before .before .before .before .before .before .args in (
+    let at-loop = c .before .before .before .before .before in
+    let turn = at-loop .loop in
+    let args = at-loop .before .before .before .args in (
       turn .inv .0,
       omega arith,
       omega arith,

@@ -26,10 +26,11 @@ shared-slice-read-if2 c = search needs
 
 returns-2 : tie.Need-returns-2
 returns-2 c =
+    let after-wide = c .before .before .before .before in
     says-false
     (λ good.
     c .if2 .taken
-    (good-checked _ _ good .last-level ∙ ap (levelBefore _ _) (sym (c .before .before .before .before .wide .ensures)) ∙ sym (c .before .before .level-before .ensures)))
+    (good-checked _ _ good .last-level ∙ ap (levelBefore _ _) (sym (after-wide .wide .ensures)) ∙ sym (c .before .before .level-before .ensures)))
 
 places-pass-requires : tie.Need-places-pass-requires
 places-pass-requires c κs = search needs
@@ -50,14 +51,15 @@ values-pass-requires c κs = search needs
 
 returns-5 : tie.Need-returns-5
 returns-5 c =
-    let level = c .before .before .before .before .before .before .before in
+    let after-places-pass = c .before .before .before .before in
+    let level = after-places-pass .before .before .before in
     says-alike
     (λ values.
     checked-good _ _
     (record {
       count-within = omega arith;
-      last-level = c .before .before .before .before .before .if2 .left ∙ level .level-before .ensures ∙ ap (levelBefore _ _) (level .before .before .wide .ensures);
-      places = λ i h. c .before .before .before .before .places-pass .ensures .yes (not-false _ (c .before .before .before .if3 .left)) i (omega arith);
+      last-level = after-places-pass .before .if2 .left ∙ level .level-before .ensures ∙ ap (levelBefore _ _) (level .before .before .wide .ensures);
+      places = λ i h. after-places-pass .places-pass .ensures .yes (not-false _ (c .before .before .before .if3 .left)) i (omega arith);
       free = λ i k h. c .before .before .rest-passes .ensures .yes (not-false _ (c .before .if4 .left)) i (omega arith) h;
       values = values;
     }))

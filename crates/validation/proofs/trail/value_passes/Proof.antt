@@ -47,13 +47,17 @@ returns : tie.Need-returns
 returns c = says-true (inl (omega (arith, value-is (c .before))))
 
 returns-2 : tie.Need-returns-2
-returns-2 c = says-false (λ good. ⊎-elim (λ q. omega (arith, value-is (c .before .before))) (λ q. omega (arith, value-is (c .before .before))) good)
+returns-2 c =
+    let after-shared-slice-known2 = c .before .before in
+    says-false (λ good. ⊎-elim (λ q. omega (arith, value-is after-shared-slice-known2)) (λ q. omega (arith, value-is after-shared-slice-known2)) good)
 
 shared-slice-read-if3 : tie.Need-shared-slice-read-if3
 shared-slice-read-if3 c = search needs
 
 returns-3 : tie.Need-returns-3
-returns-3 c = let value = value-is (c .before .before .before .before) in says-false (λ good. ⊎-elim (λ q. omega arith) (λ q. omega arith) good)
+returns-3 c =
+    let after-shared-slice-known2 = c .before .before .before .before in
+    let value = value-is after-shared-slice-known2 in says-false (λ good. ⊎-elim (λ q. omega arith) (λ q. omega arith) good)
 
 wide-requires : tie.Need-wide-requires
 wide-requires c κs = search needs

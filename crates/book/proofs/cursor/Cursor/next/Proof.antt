@@ -25,7 +25,9 @@ part-token-start : tie.Need-part-token-start
 part-token-start c = search needs
 
 part-token-end : tie.Need-part-token-end
-part-token-end c = omega (arith, c .word-end .ensures, until-within blank (c .before .before .before .before .args .text .now) (c .before .before .gap-end .result) (c .before .before .gap-end .ensures .within))
+part-token-end c =
+    let after-gap-end = c .before .before in
+    omega (arith, c .word-end .ensures, until-within blank (after-gap-end .before .before .args .text .now) (after-gap-end .gap-end .result) (after-gap-end .gap-end .ensures .within))
 
 token-requires : tie.Need-token-requires
 token-requires c κs = search needs
@@ -40,13 +42,19 @@ enum-told-2 : tie.Need-enum-told-2
 enum-told-2 c = search needs
 
 returns-2 : tie.Need-returns-2
-returns-2 c = next-word (c .before .before .before .before .before .before .before .gap-end .ensures) _ _ (omega arith) (c .before .before .before .before .before .word-end .ensures) (ap tokenIn (sym (c .before .l .given .1)) ∙ c .before .before .before .token .ensures)
+returns-2 c =
+    let after-word-end = c .before .before .before .before .before in
+    next-word (after-word-end .before .before .gap-end .ensures) _ _ (omega arith) (after-word-end .word-end .ensures) (ap tokenIn (sym (c .before .l .given .1)) ∙ c .before .before .before .token .ensures)
 
 returns-3 : tie.Need-returns-3
-returns-3 c = next-word (c .before .before .before .before .before .before .gap-end .ensures) _ _ (omega arith) (c .before .before .before .before .word-end .ensures) (ap tokenIn (sym (c .enum-told .given .1)) ∙ c .before .before .token .ensures)
+returns-3 c =
+    let after-word-end = c .before .before .before .before in
+    next-word (after-word-end .before .before .gap-end .ensures) _ _ (omega arith) (after-word-end .word-end .ensures) (ap tokenIn (sym (c .enum-told .given .1)) ∙ c .before .before .token .ensures)
 
 returns-4 : tie.Need-returns-4
-returns-4 c = (_, (next-word (c .before .before .before .before .before .before .gap-end .ensures) _ _ (omega arith) (c .before .before .before .before .word-end .ensures) (ap tokenIn (sym (c .enum-told2 .given .1)) ∙ c .before .before .token .ensures)) .tokens)
+returns-4 c =
+    let after-word-end = c .before .before .before .before in
+    (_, (next-word (after-word-end .before .before .gap-end .ensures) _ _ (omega arith) (after-word-end .word-end .ensures) (ap tokenIn (sym (c .enum-told2 .given .1)) ∙ c .before .before .token .ensures)) .tokens)
 
 pub next-spec : {M : Type 1} → statement M
 next-spec =
