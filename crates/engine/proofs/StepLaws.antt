@@ -229,7 +229,7 @@ module _ {book numbers : List ℕ} (at : Holding book numbers) (k : ℕ) (accept
           encodes = cut-encodes (getD (set after conflictAt 0) backtracksAt 0 + 1) (let z = count-same in omega arith);
           same-length = simp length-set (beside-cut .same-length);
           same-behind =
-              drop-set-lt (requiredLength (variablesOf book) (clausesOf book)) (set after conflictAt 0) 3 (getD (set after conflictAt 0) backtracksAt 0 + 1) (omega arith)
-              ∙ drop-set-lt (requiredLength (variablesOf book) (clausesOf book)) after 2 0 (omega arith)
+              drop-set-lt (requiredLength (variablesOf book) (clausesOf book)) (set after conflictAt 0) backtracksAt (getD (set after conflictAt 0) backtracksAt 0 + 1) (omega arith)
+              ∙ drop-set-lt (requiredLength (variablesOf book) (clausesOf book)) after conflictAt 0 (omega arith)
               ∙ beside-behind beside-cut (requiredLength (variablesOf book) (clausesOf book)) (omega arith);
         }

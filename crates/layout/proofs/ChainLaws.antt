@@ -1,5 +1,5 @@
 -- The nodes of clauses and the chains of nodes: what heads and links say where lists are held, and that they hold the lists.
-use Prim.Native.Nat.{ℕ, _+_, _*_, _-_, _/_, _%_, _≤_, _<_}
+use Prim.Native.Nat.{ℕ, _+_, _*_, _-_, _%_, _≤_, _<_}
 use native.Mathlib.Omega.{arith}
 use mathlib.Core.Bool.{true, Bool, false, cond}
 use mathlib.Core.List.{List, [], _∷_, _++_}

@@ -4,7 +4,7 @@ use mathlib.Core.Path.{_≡_, refl}
 use mathlib.Core.Bool.{true, false}
 use mathlib.Core.List.{List, [], _∷_, _++_}
 use lib.ListN.{length, take}
-use Rattle.base.specs.Lists.{all, any, keep, flat, empty, member, distinct, same, begins, times, table as values, upTo, sum}
+use Rattle.base.specs.Lists.{all, any, keep, flat, empty, member, distinct, same, begins, times, table, upTo, sum}
 use Rattle.book.specs.Formula.{Formula, positive, negative, literalWithin, soundClause, sound}
 use Rattle.book.specs.Numbers.{starts, numbersOf, clausesFrom, rising, wellFormed}
 use Rattle.book.specs.Text.{blank, lineEnd, extend, split, notSkipped, linesOf, filled, wordsOf, decimal, isDigit, unsigned, unsignedToken, negativeToken, tokenOf, headed, headerIn, headerOf}
@@ -36,8 +36,8 @@ positives from (suc n) = positive from ∷ positives (suc from) n
 abbrev pub longText : ℕ → List ℕ
 longText n = bytes "p cnf 500 1\n" ++ counting 1 n
 
-abbrev pub long : ℕ → Formula
-long n = record { variables = 500; clauses = positives 1 n ∷ [] }
+abbrev pub longFormula : ℕ → Formula
+longFormula n = record { variables = 500; clauses = positives 1 n ∷ [] }
 
 abbrev pub noClauses : ℕ → Formula
 noClauses variables = record { variables = variables; clauses = [] }
@@ -124,9 +124,9 @@ torn =
       clauses = (positive 1 ∷ positive 3 ∷ []) ∷ (positive 1 ∷ positive 2 ∷ []) ∷ (positive 1 ∷ negative 2 ∷ []) ∷ [];
     }
 
-pub record Table : Type 0 where
+pub record MarkedPoints : Type 0 where
   -- 255 literals read, 256 give 6.
-  pub literals-255 : readText (longText 255) ≡ accepted (long 255)
+  pub literals-255 : readText (longText 255) ≡ accepted (longFormula 255)
   pub literals-256 : readText (longText 256) ≡ refused 6
   -- V 500 read, 501 gives 3, as does 0.
   pub variables-500 : readText (bytes "p cnf 500 0\n") ≡ accepted (noClauses 500)
@@ -194,9 +194,9 @@ pub record Table : Type 0 where
   pub conflict-ends-trail : trailOldest (reference torn (decision (negative 1) ∷ [])) ≡ decided (negative 1) ∷ implied (negative 2) ∷ []
   pub conflict-ends-named : reference torn (decision (negative 1) ∷ []) .conflict ≡ 2
 
-pub table : Table
-unfolding scriptLines numbered backOf lineOf signed listed callWords impliedLine clauseLine backLine refusedLine endLine propagatedLine unlessRefused answerTo stepOf answersTo outputFor deskOutput trailBehind sum any distinct times values upTo soundClause sound starts numbersOf clausesFrom rising wellFormed valueNumber levelNumber nodeOf watchLiteral firstNode behind headNumber linkNumber watchNumber encode levelBefore heldTrail heldCells chainFrom heldLists held hasReason isJustified isWatching isGuarded watchesHold isFixpoint isConflict isListed isValid passes callRefusal sessionBacktrackRefusal backtrackNumbers overwritten all keep flat empty member same begins literalWithin blank lineEnd extend split notSkipped linesOf filled wordsOf decimal isDigit unsigned unsignedToken negativeToken tokenOf headed headerIn headerOf fault opened closed written notNumber overVariables wrongLength repeated surplus unfinished overLiterals faultsAt faultsFrom outside bodyOf faultsUnder faultsOf before earlier least onto clausesIn formulaUnder formulaIn judged readText digits opposite place literalAt isTrue decisions level lowered cut watched next oneMore scanFrom scan pushFront without takeOut addChecks otherWatch moved scannedAction action onTrail withWatches withConflict counted performAction visit readList propagateFrom firstCell watchAll fresh assignUnit assignUnits openRun decide backtrack decideRefusal backtrackRefusal refusal performCall step stepAll reference countAtLatest bytes counting positives reversed
-table =
+pub markedPoints : MarkedPoints
+unfolding scriptLines numbered backOf lineOf signed listed callWords impliedLine clauseLine backLine refusedLine endLine propagatedLine unlessRefused answerTo stepOf answersTo outputFor deskOutput trailBehind sum any distinct times table upTo soundClause sound starts numbersOf clausesFrom rising wellFormed valueNumber levelNumber nodeOf watchLiteral firstNode behind headNumber linkNumber watchNumber encode levelBefore heldTrail heldCells chainFrom heldLists held hasReason isJustified isWatching isGuarded watchesHold isFixpoint isConflict isListed isValid passes callRefusal sessionBacktrackRefusal backtrackNumbers overwritten all keep flat empty member same begins literalWithin blank lineEnd extend split notSkipped linesOf filled wordsOf decimal isDigit unsigned unsignedToken negativeToken tokenOf headed headerIn headerOf fault opened closed written notNumber overVariables wrongLength repeated surplus unfinished overLiterals faultsAt faultsFrom outside bodyOf faultsUnder faultsOf before earlier least onto clausesIn formulaUnder formulaIn judged readText digits opposite place literalAt isTrue decisions level lowered cut watched next oneMore scanFrom scan pushFront without takeOut addChecks otherWatch moved scannedAction action onTrail withWatches withConflict counted performAction visit readList propagateFrom firstCell watchAll fresh assignUnit assignUnits openRun decide backtrack decideRefusal backtrackRefusal refusal performCall step stepAll reference countAtLatest bytes counting positives reversed
+markedPoints =
     record {
       literals-255 = refl;
       literals-256 = refl;

@@ -9,7 +9,7 @@ use borrow.Author.Tests.{eqb-true, eq-eqb, not-false, leb-true, leb-false}
 use lib.Dec.{leb, eqb}
 use lib.ListN.{getD}
 use Rattle.base.specs.Lists.{member}
-use Rattle.base.proofs.Bools.{alike, decided, never, either}
+use Rattle.base.proofs.Bools.{alike, true-or-false, never, either}
 use Rattle.base.proofs.Members.{position, member-at}
 use Rattle.book.specs.Formula.{Formula, sound}
 use Rattle.run.specs.Trail.{Entry, opposite, place, isTrue, isFalse, decisions}
@@ -104,7 +104,7 @@ module _ (formula : Formula) (s : sound formula ≡ true) (run : Run) (v : Valid
   swap-holds a b (inr (inr g)) = inr (inl g)
 
   pub trail-closed : run .conflict ≡ 0 → UnitClosed formula (λ (l : ℕ). isTrue (run .trail) l ≡ true)
-  trail-closed quiet c l h others = go (decided (leb 2 (size formula c)))
+  trail-closed quiet c l h others = go (true-or-false (leb 2 (size formula c)))
     where
       one-literal : size formula c < 2 → isTrue (run .trail) l ≡ true
       one-literal small =
@@ -156,7 +156,7 @@ module _ (formula : Formula) (s : sound formula ≡ true) (run : Run) (v : Valid
   )
 
   pub conflict-both-ways : (inConflict run ≡ true) ↔ BothWays (Closure formula (decisions (run .trail)))
-  conflict-both-ways = (λ e. forth (run .conflict) refl e, λ b. back b (decided (inConflict run)))
+  conflict-both-ways = (λ e. forth (run .conflict) refl e, λ b. back b (true-or-false (inConflict run)))
     where
       ds : List ℕ
       ds = decisions (run .trail)

@@ -76,14 +76,14 @@ module _ (formula : Formula) (goes : ℕ → Run → Type 0) (ends : Run → Typ
       propagate-stops formula fuel handled run (loud run e) ∙ sym (propagate-stops formula more handled run (loud run e))
 
   -- what propagating gives
-  abbrev pub Propagated : Run → Type 0
-  Propagated run = ((all : ℕ) × goes all run × (length (run .trail) ≤ all)) ⊎ ends run
+  abbrev pub Finished : Run → Type 0
+  Finished run = ((all : ℕ) × goes all run × (length (run .trail) ≤ all)) ⊎ ends run
 
   pub propagate-induction : (fuel handled : ℕ) (run : Run) → limit < fuel + handled → goes handled run ⊎ ends run
-      → Propagated (propagateFrom fuel formula handled run)
+      → Finished (propagateFrom fuel formula handled run)
   propagate-induction zero handled run h state = go state
     where
-      go : goes handled run ⊎ ends run → Propagated (propagateFrom zero formula handled run)
+      go : goes handled run ⊎ ends run → Finished (propagateFrom zero formula handled run)
       go (inl g) =
           let k = short handled run g in
           rw (propagate-done formula zero handled run (quiet handled run g) (omega arith)) (inl (handled, g, omega arith))
@@ -94,8 +94,8 @@ module _ (formula : Formula) (goes : ℕ → Run → Type 0) (ends : Run → Typ
     where
       go : goes handled run ⊎ ends run → (b : Bool) → ltb handled (length (run .trail)) ≡ b
           → (goes (suc handled) (readNext formula handled run) ⊎ ends (readNext formula handled run)
-          → Propagated (propagateFrom fuel formula (suc handled) (readNext formula handled run)))
-          → Propagated (propagateFrom (suc fuel) formula handled run)
+          → Finished (propagateFrom fuel formula (suc handled) (readNext formula handled run)))
+          → Finished (propagateFrom (suc fuel) formula handled run)
       go (inl g) true e later =
           rw (propagate-reads fuel handled run (quiet handled run g) e)
           (later (reads handled run g (ltb-true handled (length (run .trail)) e)))

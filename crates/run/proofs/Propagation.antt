@@ -8,7 +8,7 @@ use mathlib.Core.Path.{_≡_, sym, _∙_, ap}
 use borrow.Author.Tests.{eq-eqb}
 use lib.ListN.{length, getD, length-set}
 use Rattle.base.specs.Lists.{member, distinct}
-use Rattle.base.proofs.Bools.{decided, both}
+use Rattle.base.proofs.Bools.{true-or-false, both}
 use Rattle.base.proofs.Lists.{getD-set-cases}
 use Rattle.book.specs.Formula.{Formula, literalWithin}
 use Rattle.run.specs.Trail.{Entry, opposite, place, isTrue, isFalse, decisions, level, lowered, variablesOn}
@@ -24,7 +24,7 @@ guarded-swap k = record { forth = k .back; back = k .forth }
 
 -- with all literals handled it is the condition of a valid run
 pub guarded-holds : {trail : List Entry} {h a b : ℕ} → BothGuarded trail h a b → length trail ≤ h → WatchesHold trail a b
-guarded-holds {trail} {h} {a} {b} k all = go (decided (isFalse trail a)) (decided (isFalse trail b))
+guarded-holds {trail} {h} {a} {b} k all = go (true-or-false (isFalse trail a)) (true-or-false (isFalse trail b))
   where
     guarded : (x y : ℕ) → Guard trail h x y → isFalse trail x ≡ true → Guarded trail x y
     guarded x y g f =

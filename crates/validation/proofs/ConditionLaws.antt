@@ -9,7 +9,7 @@ use borrow.Author.Tests.{eqb-true, eqb-false, eq-eqb, ne-eqb, leb-true, le-leb, 
 use lib.Dec.{leb, ltb, eqb}
 use lib.ListN.{length, getD, List·getD-eq-default}
 use Rattle.base.specs.Lists.{all, member, times, upTo}
-use Rattle.base.proofs.Bools.{and-parts, alike, below, decided, both, either, never}
+use Rattle.base.proofs.Bools.{and-parts, alike, below, true-or-false, both, either, never}
 use Rattle.base.proofs.Lists.{all-at}
 use Rattle.base.proofs.Members.{position}
 use Rattle.book.specs.Formula.{Formula, literalWithin, sound}
@@ -99,7 +99,7 @@ justified-tests formula (e ∷ trail) j =
     both
     (⊎-elim (left-or (hasReason formula trail (e .literal)))
     (λ n. right-or (e .decided) (reason-tests formula trail (e .literal) (j .0 n)))
-    (decided (e .decided)))
+    (true-or-false (e .decided)))
     (justified-tests formula trail (j .1))
 
 -- watches and pointer

@@ -5,7 +5,7 @@ use mathlib.Core.Logic.{⊎-elim}
 use mathlib.Core.Path.{_≡_, refl}
 use borrow.Author.Tests.{ltb-true, ltb-false, leb-true, leb-false, eqb-true, eqb-false}
 use lib.Dec.{leb, ltb, eqb}
-use Rattle.base.proofs.Bools.{decided, never, same-test}
+use Rattle.base.proofs.Bools.{true-or-false, never, same-test}
 use Rattle.validation.specs.Inner.Says.{Says}
 
 module _ {P : Type 0} where
@@ -30,4 +30,4 @@ module _ {P : Type 0} where
   -- the answer is a test that means the same
   pub says-test : {r t : Bool} → (P → t ≡ true) → (t ≡ true → P) → Says r P → r ≡ t
   says-test {r} {t} to from s =
-      same-test r t (λ e. to (s .yes e)) (λ e. ⊎-elim (λ yes. yes) (λ no. absurd (s .no no (from e))) (decided r))
+      same-test r t (λ e. to (s .yes e)) (λ e. ⊎-elim (λ yes. yes) (λ no. absurd (s .no no (from e))) (true-or-false r))

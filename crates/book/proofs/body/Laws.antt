@@ -106,10 +106,10 @@ module _ (variables clauses : ℕ) (done : List (List ℕ)) (current : List ℕ)
   walk-literal l tokens e = rw (empty-test current) (chain-through (ltb variables (variableOf l)) (eqb (length current) maxClause) (member (variableOf l) (map variableOf current)) (eqb (length current) 0 && leb clauses (length done)) (eqb (length (flat done) + length current) maxLiterals) (walk variables clauses done (current ++ (l ∷ [])) tokens) e .3)
 
   -- what a literal without a fault keeps
-  pub literal-within : (l : ℕ) → faultHere l ≡ 0
+  pub literal-taken : (l : ℕ) → faultHere l ≡ 0
       → (variableOf l ≤ variables) × ((eqb (length current) 0 && leb clauses (length done)) ≡ false) × (eqb (length (flat done) + length current) maxLiterals ≡ false)
   unfolding literalFault
-  literal-within l e =
+  literal-taken l e =
       let facts = chain-through (ltb variables (variableOf l)) (eqb (length current) maxClause) (member (variableOf l) (map variableOf current)) (eqb (length current) 0 && leb clauses (length done)) (eqb (length (flat done) + length current) maxLiterals) (refused 0) e in
       (ltb-false variables (variableOf l) (facts .0), facts .1, facts .2)
 

@@ -14,10 +14,10 @@ use Rattle.book.specs.Text.{Token, literal, close, invalid}
 use Rattle.book.specs.Reading.{refused, accepted}
 use Rattle.book.specs.Inner.Walk.{walk}
 use Rattle.book.specs.Inner.Cursor.{tokensHere, NextWord}
-use Rattle.book.specs.Inner.Marks.{Marked}
+use Rattle.book.specs.Inner.Marks.{Marked, variableMarks}
 use Rattle.book.specs.Inner.Body.{Written, literalFault}
 use Rattle.book.proofs.marks.Laws.{bounded-fresh, marked-none, marked-test, marked-more}
-use Rattle.book.proofs.body.Laws.{faultHere, fault-over, walk-invalid, walk-short, walk-close, walk-fault, walk-literal, literal-within, walk-open, walk-few, walk-all, written-none, written-literal, written-close}
+use Rattle.book.proofs.body.Laws.{faultHere, fault-over, walk-invalid, walk-short, walk-close, walk-fault, walk-literal, literal-taken, walk-open, walk-few, walk-all, written-none, written-literal, written-close}
 
 -- `at`: the place of the next word; `closed` clauses are closed, with `first` literals; `total` literals in all. The rest of the text decides.
 pub record ClausesSoFar (text : List ℕ) (start variables clauses : ℕ) (numbers marks : List ℕ) (at closed first total : ℕ) : Type 0 where
@@ -35,7 +35,7 @@ pub record ClausesSoFar (text : List ℕ) (start variables clauses : ℕ) (numbe
   pub same-walk : walk variables clauses done current (tokensHere text at) ≡ walk variables clauses [] [] (tokensHere text start)
 
 pub so-far-start : (text : List ℕ) (start variables clauses : ℕ) (numbers : List ℕ) → start ≤ length text → length numbers ≡ maxBook
-    → ClausesSoFar text start variables clauses (set numbers 3 0) (replicate 501 0) start 0 0 0
+    → ClausesSoFar text start variables clauses (set numbers 3 0) (replicate variableMarks 0) start 0 0 0
 unfolding flat
 so-far-start text start variables clauses numbers h long =
     record {
@@ -49,7 +49,7 @@ so-far-start text start variables clauses numbers h long =
       open-within = λ o. absurd (omega arith);
       total-within = omega arith;
       written = written-none numbers clauses long;
-      marked = marked-none (replicate 501 0) 0 (0 + 1) (omega arith) bounded-fresh;
+      marked = marked-none (replicate variableMarks 0) 0 (0 + 1) (omega arith) bounded-fresh;
       same-walk = refl;
     }
 
@@ -152,7 +152,7 @@ module _ {text : List ℕ} {start variables clauses : ℕ} {numbers marks : List
 
     module _ (zero-fault : fault ≡ 0) (some : clauses ≤ maxClauses) where
       facts : (variableOf l ≤ variables) × ((eqb (length (g .current)) 0 && leb clauses (length (g .done))) ≡ false) × (eqb (length (flat (g .done)) + length (g .current)) maxLiterals ≡ false)
-      facts = literal-within variables clauses (g .done) (g .current) l (fault-same ∙ zero-fault)
+      facts = literal-taken variables clauses (g .done) (g .current) l (fault-same ∙ zero-fault)
 
       pub variable-within : variableOf l ≤ variables
       variable-within = facts .0

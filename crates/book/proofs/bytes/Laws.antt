@@ -10,7 +10,7 @@ use borrow.Author.Tests.{le-leb, lt-leb, eq-eqb, ne-eqb}
 use lib.Dec.{eqb}
 use lib.ListN.{length, getD, drop, drop-of-length-le}
 use lib.Seq.{drop-cons}
-use Rattle.base.specs.Lists.{all, begins}
+use Rattle.base.specs.Lists.{all}
 use Rattle.base.proofs.Lists.{begins-at}
 use Rattle.book.specs.Text.{decimal, isDigit, unsigned, literal, close, invalid, negativeToken, unsignedToken, tokenOf}
 use Rattle.book.specs.Answer.{digitsOf}

@@ -13,7 +13,7 @@ use Rattle.base.proofs.Bools.{and-parts, refuted}
 use Rattle.base.proofs.Lists.{all-more}
 use Rattle.base.proofs.Members.{distinct-more, distinct-front}
 use Rattle.book.specs.Formula.{variableOf, literalWithin, soundClause}
-use Rattle.book.specs.Inner.Marks.{Marked}
+use Rattle.book.specs.Inner.Marks.{Marked, variableMarks}
 use Rattle.book.proofs.SoundLaws.{literal-parts, literal-whole, clause-parts, clause-whole, clause-literal}
 use Rattle.book.proofs.marks.Laws.{marked-test, marked-more}
 
@@ -50,7 +50,7 @@ passed-all variables tag clause marks i p end some few =
 
 -- the next literal, l
 module _ (variables tag : ℕ) (clause marks : List ℕ) (i l : ℕ) (p : Passed variables tag clause marks i) (h : i < length clause)
-    (next : l ≡ getD clause i 0) (small : l / 2 < 501)
+    (next : l ≡ getD clause i 0) (small : l / 2 < variableMarks)
   where
     seen-more : map variableOf (take (suc i) clause) ≡ map variableOf (take i clause) ++ (l / 2 ∷ [])
     seen-more = rw (next, take-suc clause i 0 h, map-append)

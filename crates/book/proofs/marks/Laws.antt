@@ -12,11 +12,11 @@ use lib.Seq.{getD-set-same, getD-set-other}
 use Rattle.base.specs.Lists.{member}
 use Rattle.base.proofs.Lists.{getD-alike}
 use Rattle.base.proofs.Members.{member-more}
-use Rattle.book.specs.Inner.Marks.{Bounded, Marked}
+use Rattle.book.specs.Inner.Marks.{Bounded, Marked, variableMarks}
 
 -- fresh marks are all 0
-pub bounded-fresh : Bounded (replicate 501 0) 0
-bounded-fresh = record { long = length-replicate {A = ℕ} 501 0; below = λ k. le-of-eq (getD-alike 501 k 0) }
+pub bounded-fresh : Bounded (replicate variableMarks 0) 0
+bounded-fresh = record { long = length-replicate {A = ℕ} variableMarks 0; below = λ k. le-of-eq (getD-alike variableMarks k 0) }
 
 -- under a tag above every mark no variable was seen
 pub marked-none : (marks : List ℕ) (old tag : ℕ) → old < tag → Bounded marks old → Marked marks tag []
@@ -27,7 +27,7 @@ marked-none marks old tag less b =
       exact = λ k h. ne-eqb (getD marks k 0) tag (λ e. omega (arith, b .below k));
     }
 
-module _ (marks : List ℕ) (tag : ℕ) (seen : List ℕ) (x : ℕ) (within : x < 501) (m : Marked marks tag seen) where
+module _ (marks : List ℕ) (tag : ℕ) (seen : List ℕ) (x : ℕ) (within : x < variableMarks) (m : Marked marks tag seen) where
   -- the mark says whether the variable was seen
   pub marked-test : eqb (getD marks x 0) tag ≡ member x seen
   marked-test = m .exact x within
@@ -58,6 +58,6 @@ module _ (marks : List ℕ) (tag : ℕ) (seen : List ℕ) (x : ℕ) (within : x 
       below k true e = le-of-eq (at-same k (eqb-true k x e))
       below k false e = rw (at-other k (eqb-false k x e)) (m .bounded .below k)
 
-      exact : (k : ℕ) → k < 501 → (b : Bool) → eqb k x ≡ b → eqb (getD (set marks x tag) k 0) tag ≡ member k (seen ++ (x ∷ []))
+      exact : (k : ℕ) → k < variableMarks → (b : Bool) → eqb k x ≡ b → eqb (getD (set marks x tag) k 0) tag ≡ member k (seen ++ (x ∷ []))
       exact k h true e = rw (at-same k (eqb-true k x e), member-more k seen x, e, or-true) (eq-eqb tag tag refl)
       exact k h false e = rw (at-other k (eqb-false k x e), member-more k seen x, e, or-false) (m .exact k h)

@@ -1,17 +1,22 @@
 -- Marks on variables: one for each of the numbers up to the largest variable, so that a repeated variable of a clause is met in one step.
-use Prim.Native.Nat.{ℕ, _≤_, _<_}
+use Prim.Native.Nat.{ℕ, _+_, _≤_, _<_}
 use mathlib.Core.List.{List}
 use mathlib.Core.Path.{_≡_}
 use lib.Dec.{eqb}
 use lib.ListN.{length, getD}
 use Rattle.base.specs.Lists.{member}
+use Rattle.book.specs.Formula.{maxVariables}
+
+-- how many marks there are
+abbrev pub variableMarks : ℕ
+variableMarks = maxVariables + 1
 
 -- no mark is above the tag
 pub record Bounded (marks : List ℕ) (tag : ℕ) : Type 0 where
-  pub long : length marks ≡ 501
+  pub long : length marks ≡ variableMarks
   pub below : (k : ℕ) → getD marks k 0 ≤ tag
 
 -- no mark is above the tag, and the variables that bear the tag are those seen
 pub record Marked (marks : List ℕ) (tag : ℕ) (seen : List ℕ) : Type 0 where
   pub bounded : Bounded marks tag
-  pub exact : (k : ℕ) → k < 501 → eqb (getD marks k 0) tag ≡ member k seen
+  pub exact : (k : ℕ) → k < variableMarks → eqb (getD marks k 0) tag ≡ member k seen

@@ -134,7 +134,7 @@ module _ {book numbers : List ℕ} (c : ℕ) (at : Units book numbers c) where
                 (record {
                   encodes = encodes-conflict (suc c) (at .opened .structure .watched) (at .encodes);
                   same-length = length-set numbers conflictAt (suc c);
-                  same-behind = drop-set-lt (requiredLength (variablesOf book) (clausesOf book)) numbers 2 (suc c) (omega arith);
+                  same-behind = drop-set-lt (requiredLength (variablesOf book) (clausesOf book)) numbers conflictAt (suc c) (omega arith);
                 });
             says = rw conflict (sym (loud c));
           })

@@ -20,11 +20,11 @@ use Rattle.layout.proofs.TrailLaws.{literal-cases, literal-newest, level-number
 
 -- the numbers after the last literal left
 module _ (v : ℕ) (numbers : List ℕ) (at l level : ℕ) where
-  abbrev pub one : List ℕ
+  abbrev one : List ℕ
   one = set numbers decisionsAt level
 
   abbrev two : List ℕ
-  two = set one 0 at
+  two = set one lengthAt at
 
   abbrev three : List ℕ
   three = set two (trailAt + at) 0
@@ -35,8 +35,8 @@ module _ (v : ℕ) (numbers : List ℕ) (at l level : ℕ) where
   abbrev shorter : List ℕ
   shorter = set four (valueSlot v l) 0
 
-  shorter-other : (j : ℕ) → (j ≡ 1 → ⊥) → (j ≡ 0 → ⊥) → (j ≡ trailAt + at → ⊥) → (j ≡ levelsAt v + at → ⊥)
-      → (j ≡ valuesAt v + (variableOf l - 1) → ⊥) → getD shorter j 0 ≡ getD numbers j 0
+  shorter-other : (j : ℕ) → (j ≡ decisionsAt → ⊥) → (j ≡ lengthAt → ⊥) → (j ≡ trailAt + at → ⊥) → (j ≡ levelsAt v + at → ⊥)
+      → (j ≡ valueSlot v l → ⊥) → getD shorter j 0 ≡ getD numbers j 0
   shorter-other j n0 n1 n2 n3 n4 =
       getD-set-other four (valueSlot v l) j 0 0 n4
       ∙ getD-set-other three (levelsAt v + at) j 0 0 n3

@@ -1,5 +1,5 @@
 -- What the contracts of src/visit.rt cite: one clause of the list that is read, before and after its visit.
-use Prim.Native.Nat.{ℕ, _+_, _-_, _<_, _/_, _%_, min}
+use Prim.Native.Nat.{ℕ, _+_, _-_, _<_, _%_, min}
 use mathlib.Core.Path.{_≡_}
 use mathlib.Core.Bool.{true, Bool, false, cond}
 use mathlib.Core.List.{List, _∷_, map}
@@ -12,7 +12,7 @@ use Rattle.run.specs.Trail.{Entry, isTrue, isFalse}
 use Rattle.run.specs.Run.{Run, visit, inConflict, clauseOf, size, cellOf, otherWatch, maxCount}
 use Rattle.run.specs.Valid.{Watching}
 use Rattle.run.specs.Progress.{ReadingList}
-use Rattle.layout.specs.Layout.{watchesAt, pointersAt, clauseOfNode, watchSlot}
+use Rattle.layout.specs.Layout.{pointersAt, clauseOfNode, watchSlot}
 use Rattle.layout.specs.Encodes.{Encodes}
 use Rattle.engine.specs.Engine.{SameBehind}
 use Rattle.engine.specs.Inner.Lists.{Walking}

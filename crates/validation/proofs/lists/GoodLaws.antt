@@ -1,5 +1,5 @@
 -- Heads and links are good exactly where the list of every literal is, every node of a watch is in one, and the other links are 0.
-use Prim.Native.Nat.{ℕ, zero, suc, _+_, _*_, _-_, _/_, _%_, _≤_, _<_}
+use Prim.Native.Nat.{ℕ, zero, suc, _+_, _*_, _-_, _%_, _≤_, _<_}
 use native.Mathlib.Omega.{arith}
 use mathlib.Core.Bool.{Bool, true, false}
 use mathlib.Core.List.{List, [], _∷_, map}
@@ -26,7 +26,6 @@ use Rattle.run.proofs.WatchLists.{listed-size, literals-differ}
 use Rattle.layout.specs.Layout.{headsAt, watchLiteral, nodeOf, chainFrom, held, headSlot, linkSlot, clauseOfNode}
 use Rattle.layout.specs.Encodes.{Chain, nodesOf}
 use Rattle.validation.specs.Inner.Says.{Says}
-use Rattle.validation.specs.Inner.Cells.{CellsGood}
 use Rattle.validation.specs.Inner.Lists.{ListsGood, ownerIn, Looking, ListGood, Met, AllSays, NodesGood}
 use Rattle.validation.proofs.cells.Laws.{held-cell, held-cells-length}
 use Rattle.layout.proofs.ChainLaws.{node-cases, node-clause, node-positive, node-within, AtNode, at-node, node-literal, watched-once}

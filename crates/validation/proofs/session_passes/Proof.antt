@@ -3,7 +3,7 @@ use Prim.Native.Nat.{ℕ, _-_, _≤_, _<_}
 use native.Mathlib.Omega.{arith}
 use mathlib.Core.Path.{_≡_, refl, sym}
 use borrow.Author.Tests.{not-true, not-false}
-use lib.ListN.{length, getD}
+use lib.ListN.{getD}
 use Rattle.book.specs.Numbers.{formulaOf}
 use Rattle.book.proofs.WellFormedLaws.{well-formed-limited}
 use Rattle.run.specs.Run.{maxCount}
