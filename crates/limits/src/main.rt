@@ -1,8 +1,5 @@
 // Executes the limits of document 01 on the code: each line of standard input is a trial, and prints one line, held to the stored `stdout`.
-mod answers;
-mod calls;
 mod lines;
-mod reads;
 mod sessions;
 mod steps;
 

@@ -1,5 +1,7 @@
-// The calls of a session that may write, and lines of a script. Each function answers how many literals of the trail are to be listed behind.
-use crate::answers;
+// The calls of a trial by their names, and what they answer, for `limits`. Each function answers how many literals of the trail are to be listed behind.
+pub mod answers;
+pub mod reads;
+
 use crate::reads::read;
 use script::Line;
 use trials::build::decode;
