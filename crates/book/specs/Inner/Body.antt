@@ -1,4 +1,4 @@
--- What the contracts of the private functions that read the clauses say.
+-- What the contracts of src/body.rt cite: the fault of a literal, and the clauses that the tokens write.
 use Prim.Native.Nat.{ℕ, suc, _+_, _≤_}
 use mathlib.Core.Path.{_≡_}
 use mathlib.Core.Bool.{Bool, cond, _&&_}

@@ -1,4 +1,4 @@
--- What the contract of the private function that reads a word says: the token that its answer is.
+-- What the contracts of src/bytes.rt cite: the token that the answer to a word is.
 use Rattle.book.specs.Text.{Token, literal, close, invalid}
 use Rattle.book.specs.declared.bytes.Word.{Word}
 use Rattle.book.specs.declared.bytes.Word.the-variants as w

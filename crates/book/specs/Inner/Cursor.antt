@@ -1,4 +1,4 @@
--- What the contracts of the private functions of the cursor say: its lines, gaps and steps from word to word.
+-- What the contracts of src/cursor.rt cite: lines, gaps and steps from word to word.
 use Prim.Native.Nat.{ℕ, _-_, _≤_, _<_}
 use mathlib.Core.Path.{_≡_}
 use mathlib.Core.Bool.{true, false}

@@ -1,4 +1,4 @@
--- What the starts of book numbers say together: they part the literal numbers into the clauses.
+-- What the contracts of src/form.rt cite: starts that part the literal numbers into the clauses.
 use Prim.Native.Nat.{ℕ, _+_, _≤_}
 use mathlib.Core.Bool.{true}
 use mathlib.Core.List.{List}

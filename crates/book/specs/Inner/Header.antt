@@ -1,4 +1,4 @@
--- What the contracts of the private functions that read the header say.
+-- What the contracts of src/header.rt cite: the words of the header line.
 use Prim.Native.Nat.{ℕ, _≤_}
 use mathlib.Core.Path.{_≡_}
 use mathlib.Core.Bool.{Bool, true, false}

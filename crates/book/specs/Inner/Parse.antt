@@ -1,4 +1,4 @@
--- What the contract of the private function that reads a whole text says.
+-- What the contracts of src/parse.rt cite: a whole text and its book numbers.
 use Prim.Native.Nat.{ℕ, _+_, _≤_}
 use mathlib.Core.Path.{_≡_}
 use mathlib.Core.List.{List}

@@ -1,4 +1,4 @@
--- Bytes written one behind the other to a lent buffer.
+-- What the contracts of src/writing.rt cite: bytes written one behind the other to a lent buffer.
 use Prim.Native.Nat.{ℕ}
 use mathlib.Core.Path.{_≡_}
 use mathlib.Core.List.{List, _++_}
