@@ -8,13 +8,9 @@ use mathlib.Core.Path.{_≡_, refl, sym, ap, _∙_}
 use borrow.Author.Tests.{eqb-true, eqb-false, eq-eqb, ne-eqb, not-true}
 use lib.Dec.{eqb}
 use lib.ListN.{length}
-use Rattle.base.specs.Lists.{keep, member, distinct}
+use Rattle.base.specs.Lists.{keep, member, distinct, without}
 use Rattle.base.proofs.Bools.{both, either, neither-left, neither-right, never, and-parts, refuted}
 use Rattle.base.proofs.Members.{member-at}
-
--- the list without the number n
-without : ℕ → List ℕ → List ℕ
-without n xs = keep (λ (y : ℕ). not (eqb y n)) xs
 
 without-member : (n x : ℕ) (xs : List ℕ) → member x (without n xs) ≡ true → (member x xs ≡ true) × (x ≡ n → ⊥)
 unfolding without keep member

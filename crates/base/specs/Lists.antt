@@ -57,6 +57,10 @@ unfoldable pub times : ℕ → List ℕ → ℕ
 times x [] = 0
 times x (y ∷ ys) = cond (eqb x y) (suc (times x ys)) (times x ys)
 
+-- the list without the number
+unfoldable pub without : ℕ → List ℕ → List ℕ
+without x ys = keep (λ (y : ℕ). not (eqb y x)) ys
+
 -- the longest front part in which the test holds of no number
 unfoldable pub until : (ℕ → Bool) → List ℕ → List ℕ
 until stop [] = []

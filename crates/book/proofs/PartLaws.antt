@@ -89,20 +89,20 @@ module _ (numbers : List ℕ) where
     pub clause-rises : (c : ℕ) → c < clausesOf numbers → clauseStart numbers c ≤ clauseStart numbers (suc c)
     clause-rises c h = omega (arith, start-rises c h)
 
-    pub clause-within : (c : ℕ) → c ≤ clausesOf numbers → clauseStart numbers c ≤ length numbers
-    clause-within c h = omega (arith, start-within c h, parted .long)
+    pub start-inside : (c : ℕ) → c ≤ clausesOf numbers → clauseStart numbers c ≤ length numbers
+    start-inside c h = omega (arith, start-within c h, parted .long)
 
     -- the same at a start and an end that were read
     pub clause-inside : (c s e : ℕ) → c < clausesOf numbers → s ≡ clauseStart numbers c → e ≡ clauseStart numbers (c + 1)
         → (s ≤ e) × (e ≤ length numbers)
     clause-inside c s e h begin end =
         let next : clauseStart numbers (c + 1) ≡ clauseStart numbers (suc c) = ap (clauseStart numbers) (add-one c) in
-        (omega (arith, clause-rises c h), omega (arith, clause-within (suc c) h))
+        (omega (arith, clause-rises c h), omega (arith, start-inside (suc c) h))
 
     pub length-clause : (c : ℕ) → c < clausesOf numbers
         → length (clauseAt numbers c) ≡ startOf numbers (suc c) - startOf numbers c
     length-clause c h =
-        let inside : clauseStart numbers (suc c) ≤ length numbers = clause-within (suc c) h in
+        let inside : clauseStart numbers (suc c) ≤ length numbers = start-inside (suc c) h in
         rw (clause-part c, length-part (clauseStart numbers c) (clauseStart numbers (suc c)) numbers inside) (omega arith)
 
     -- n clauses, one after the other, are a part of the numbers

@@ -8,11 +8,11 @@ ghost use Rattle.book.specs.Numbers.{variablesOf, clausesOf, literalsOf,
 ghost use lib.ListN.{length, getD};
 ghost use mathlib.Core.List.{[]};
 ghost use mathlib.Core.Path.{_≡_};
-use crate::limits::MARKS;
 use crate::limits::MAX_CLAUSE;
 use crate::limits::MAX_CLAUSES;
 use crate::limits::MAX_LITERALS;
 use crate::limits::MAX_VARIABLES;
+use crate::limits::VARIABLE_MARKS;
 use crate::marks::mark;
 
 pub(crate) fn wide(x: u32) -> usize
@@ -81,7 +81,12 @@ fn starts_rise(book: &[u32], clauses: usize) -> bool
 }
 
 // The clause has 1 to 255 literals of the V variables, no variable twice. No variable bears the tag before.
-fn clause_sound(clause: &[u32], variables: usize, tag: u16, marks: &mut [u16; MARKS]) -> bool
+fn clause_sound(
+    clause: &[u32],
+    variables: usize,
+    tag: u16,
+    marks: &mut [u16; VARIABLE_MARKS],
+) -> bool
     requires { ⌜ variables ≤ maxVariables ⌝ }
     requires { ⌜ Marked (now marks) tag [] ⌝ }
     ensures { λ r. ⌜ r ≡ soundClause variables (now (clause .entry)) ⌝ }
@@ -118,7 +123,7 @@ fn clauses_sound(book: &[u32], variables: usize, clauses: usize) -> bool
     requires { ⌜ variables ≤ maxVariables ⌝ }
     ensures { λ r. ⌜ r ≡ all (soundClause variables) (clausesFrom (now (book .entry)) 0 clauses) ⌝ }
 {
-    let mut marks = [0u16; MARKS];
+    let mut marks = [0u16; VARIABLE_MARKS];
     let mut tag = 0u16;
     let mut c = 0;
     while c < clauses {

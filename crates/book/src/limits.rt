@@ -16,4 +16,4 @@ pub const MAX_CLAUSE: usize = 255;
 pub const MAX_BOOK: usize = MAX_CLAUSES + MAX_LITERALS + 4;
 
 // A mark for each variable, and one that no variable has.
-pub(crate) const MARKS: usize = MAX_VARIABLES + 1;
+pub(crate) const VARIABLE_MARKS: usize = MAX_VARIABLES + 1;

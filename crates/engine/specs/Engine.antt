@@ -1,5 +1,5 @@
 -- What the exported functions ask and promise: a valid run is held; the numbers become those of a run, and nothing behind them changes.
-use Prim.Native.Nat.{ℕ, _-_}
+use Prim.Native.Nat.{ℕ}
 use mathlib.Core.Path.{_≡_}
 use mathlib.Core.Bool.{true}
 use mathlib.Core.List.{List}

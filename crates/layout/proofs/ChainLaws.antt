@@ -1,5 +1,5 @@
 -- The nodes of clauses and the chains of nodes: what heads and links say where lists are held, and that they hold the lists.
-use Prim.Native.Nat.{ℕ, _+_, _*_, _-_, _%_, _≤_, _<_}
+use Prim.Native.Nat.{ℕ, _+_, _*_, _%_, _≤_, _<_}
 use native.Mathlib.Omega.{arith}
 use mathlib.Core.Bool.{true, Bool, false, cond}
 use mathlib.Core.List.{List, [], _∷_, _++_}
@@ -17,7 +17,7 @@ use Rattle.run.specs.Run.{size, listOf, clauseOf, cellAt}
 use Rattle.run.specs.Valid.{one}
 use Rattle.run.proofs.Clauses.{literal-within, clause-exists}
 use Rattle.run.specs.Progress.{firstLiteral, secondLiteral, among, Watched}
-use Rattle.run.proofs.WatchLists.{literals-differ, listed-size, Order, forth, back, Sides, listed-sides, listed-once}
+use Rattle.run.proofs.WatchLists.{one-same, one-other, literals-differ, listed-size, Order, forth, back, Sides, listed-sides, listed-once}
 use Rattle.layout.specs.Layout.{watchLiteral, nodeOf, firstNode, behind, linkNumber, linkSlot, clauseOfNode}
 use Rattle.layout.specs.Encodes.{Chain, nodesOf, endSlot}
 
@@ -66,12 +66,6 @@ pub record AtNode (formula : Formula) (cells : List Cell) (lists : List (List �
   pub stands-there : 0 < times (clauseOfNode node) (listOf lists (watchLiteral formula cells node))
   pub is-node : nodeOf formula cells (watchLiteral formula cells node) (clauseOfNode node) ≡ node
 
-one-same : (a b : ℕ) → a ≡ b → one (eqb a b) ≡ 1
-one-same a b e = rw (eq-eqb a b e)
-
-one-other : (a b : ℕ) → (a ≡ b → ⊥) → one (eqb a b) ≡ 0
-one-other a b n = rw (ne-eqb a b n)
-
 module _ (formula : Formula) (s : sound formula ≡ true) (cells : List Cell) (lists : List (List ℕ)) (w : Watched formula cells lists) where
   counted : (l c : ℕ) → 2 ≤ size formula c → times c (listOf lists l) ≡ among l (firstLiteral formula cells c) (secondLiteral formula cells c)
   counted l c two = rw (w .listed l c, le-leb 2 (size formula c) two)
@@ -89,7 +83,7 @@ module _ (formula : Formula) (s : sound formula ≡ true) (cells : List Cell) (l
 
       odd : node % 2 ≡ 1 → AtNode formula cells lists node
       odd e =
-          let o = one-same (firstLiteral formula cells c) (firstLiteral formula cells c) refl in
+          let o = one-same (refl {a = firstLiteral formula cells c}) in
           let there : 0 < times c (listOf lists (firstLiteral formula cells c)) = rw (counted (firstLiteral formula cells c) c two, o) (omega arith) in
           let node-there : nodeOf formula cells (firstLiteral formula cells c) c ≡ node
           = ⊎-elim (λ p. omega arith) (λ p. absurd (p .0 refl)) (node-cases formula cells (firstLiteral formula cells c) c) in
@@ -102,7 +96,7 @@ module _ (formula : Formula) (s : sound formula ≡ true) (cells : List Cell) (l
       even : (node % 2 ≡ 1 → ⊥) → AtNode formula cells lists node
       even n =
           let e : node % 2 ≡ 0 = omega arith in
-          let o = one-same (secondLiteral formula cells c) (secondLiteral formula cells c) refl in
+          let o = one-same (refl {a = secondLiteral formula cells c}) in
           let there : 0 < times c (listOf lists (secondLiteral formula cells c)) = rw (counted (secondLiteral formula cells c) c two, o) (omega arith) in
           let node-there : nodeOf formula cells (secondLiteral formula cells c) c ≡ node
           = ⊎-elim (λ p. absurd (watches-differ c two (p .0))) (λ p. omega arith) (node-cases formula cells (secondLiteral formula cells c) c) in
@@ -126,9 +120,9 @@ module _ (formula : Formula) (s : sound formula ≡ true) (cells : List Cell) (l
       second : (firstLiteral formula cells c ≡ l → ⊥) × (nodeOf formula cells l c ≡ 2 * c + 2) → watchLiteral formula cells node ≡ l
       second p =
           let count = counted l c (listed-size w l c h) in
-          let none = one-other l (firstLiteral formula cells c) (λ e. p .0 (sym e)) in
+          let none : one (eqb l (firstLiteral formula cells c)) ≡ 0 = one-other (λ e. p .0 (sym e)) in
           even-literal formula cells node (omega arith) ∙ ap (secondLiteral formula cells) (node-clause formula cells l c)
-          ∙ ⊎-elim sym (λ n. absurd (let z = one-other l (secondLiteral formula cells c) n in omega arith))
+          ∙ ⊎-elim sym (λ n. absurd (let z : one (eqb l (secondLiteral formula cells c)) ≡ 0 = one-other n in omega arith))
           (alike l (secondLiteral formula cells c))
 
   -- a link leads to the node of what stands behind the clause in its list

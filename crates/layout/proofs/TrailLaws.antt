@@ -233,7 +233,7 @@ decisions-within (e ∷ trail) = go (decided-count e trail) (decisions-within tr
     go (inl p) h = omega arith
     go (inr p) h = omega arith
 
-opposite-positive : (x : ℕ) → opposite (2 * x) ≡ 2 * x + 1
+pub opposite-positive : (x : ℕ) → opposite (2 * x) ≡ 2 * x + 1
 opposite-positive x = ⊎-elim (λ p. p .1) (λ p. absurd (omega arith)) (opposite-cases (2 * x))
 
 -- an entry is that of the positive or of the negative literal, and the other one is not on the trail

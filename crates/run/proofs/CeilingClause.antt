@@ -106,9 +106,9 @@ other-true trail clause cell q v t = go (v .sides .order) t
     go (back f g m) (inr h) = here (cell .second) g h
 
 -- a watch is the other one
-other-watch : (P : ℕ → Type 0) (clause : List ℕ) (cell : Cell) (q : ℕ) → Sides clause cell q → P (otherWatch clause cell q)
+other-side : (P : ℕ → Type 0) (clause : List ℕ) (cell : Cell) (q : ℕ) → Sides clause cell q → P (otherWatch clause cell q)
     → P (firstOf clause cell) ⊎ P (secondOf clause cell)
-other-watch P clause cell q s h = go (s .order)
+other-side P clause cell q s h = go (s .order)
   where
     there : (p : ℕ) → p ≡ s .there → P (getD clause p 0)
     there p e = rw (e, s .there-literal) h
@@ -237,7 +237,7 @@ module _ (clause : List ℕ) (before : ℕ) (trail : List Entry) (cell : Cell) (
   imply-spends : (start distance : ℕ) → Rolled trail clause cell start distance (cell .pointer) → count ≤ before + distance
       → Spent clause before trail cell count q (implies (scan trail clause cell .checks))
   imply-spends start distance o few more h =
-      spent (other-watch (λ l. isTrue (entry ∷ trail) l ≡ true) clause cell q (v .sides) (newest-true entry trail))
+      spent (other-side (λ l. isTrue (entry ∷ trail) l ≡ true) clause cell q (v .sides) (newest-true entry trail))
       (failed-within start distance more o few h)
     where
       entry : Entry

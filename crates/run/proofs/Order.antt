@@ -4,7 +4,8 @@ use mathlib.Core.List.{List, [], _∷_}
 use mathlib.Core.Path.{_≡_}
 use lib.ListN.{length, length-set}
 use lib.Seq.{getD-set-same, getD-set-other}
-use Rattle.run.specs.Run.{listOf, pushFront, without, takeOut}
+use Rattle.base.specs.Lists.{without}
+use Rattle.run.specs.Run.{listOf, pushFront, takeOut}
 
 module _ (lists : List (List ℕ)) (l c : ℕ) where
   pub pushed-first : l < length lists → listOf (pushFront lists l c) l ≡ c ∷ listOf lists l

@@ -9,21 +9,21 @@ use borrow.Author.Tests.{eqb-true, eqb-false, eq-eqb, ne-eqb, leb-true, le-leb}
 use lib.Dec.{leb, eqb}
 use lib.ListN.{length, getD, set, length-set, List·getD-eq-default}
 use lib.Seq.{getD-set-same, getD-set-other}
-use Rattle.base.specs.Lists.{times}
+use Rattle.base.specs.Lists.{times, without}
 use Rattle.base.proofs.Bools.{alike, below, neither-left, neither-right}
 use Rattle.base.proofs.Members.{times-same, times-other, times-kept, times-kept-out}
 use Rattle.book.specs.Formula.{Formula, variableOf, sound}
 use Rattle.run.specs.Scan.{Cell, watched}
-use Rattle.run.specs.Run.{clauseOf, size, noCell, listOf, pushFront, without, takeOut, otherWatch, moved, cellAt}
+use Rattle.run.specs.Run.{clauseOf, size, noCell, listOf, pushFront, takeOut, otherWatch, moved, cellAt}
 use Rattle.run.specs.Valid.{Watching, one}
 use Rattle.run.specs.Progress.{firstLiteral, secondLiteral, among, stands, Watched}
 use Rattle.run.proofs.Order.{pushed-first, pushed-elsewhere, pushed-length, taken-out, taken-elsewhere, taken-length}
 use Rattle.run.proofs.Clauses.{clause-exists, literal-listed, literals-apart}
 
-one-same : {a b : ℕ} → a ≡ b → one (eqb a b) ≡ 1
+pub one-same : {a b : ℕ} → a ≡ b → one (eqb a b) ≡ 1
 one-same {a} {b} e = rw (eq-eqb a b e)
 
-one-other : {a b : ℕ} → (a ≡ b → ⊥) → one (eqb a b) ≡ 0
+pub one-other : {a b : ℕ} → (a ≡ b → ⊥) → one (eqb a b) ≡ 0
 one-other {a} {b} n = rw (ne-eqb a b n)
 
 -- The clause of the list of q, seen from q: the position that watches q and the other one. Its cell holds them in one of two orders.

@@ -5,7 +5,7 @@ use mathlib.Core.List.{List, [], _∷_, map}
 use mathlib.Core.Option.{none, some}
 use lib.Dec.{leb, ltb, eqb}
 use lib.ListN.{length, getD, set, drop, replicate}
-use Rattle.base.specs.Lists.{keep, table}
+use Rattle.base.specs.Lists.{without, table}
 use Rattle.book.specs.Formula.{Formula}
 use Rattle.run.specs.Trail.{Entry, opposite, isTrue, isFalse, literalAt, cut}
 use Rattle.run.specs.Scan.{Cell, Scanned, scan}
@@ -41,9 +41,6 @@ listOf lists l = getD lists l []
 
 unfoldable pub pushFront : List (List ℕ) → ℕ → ℕ → List (List ℕ)
 pushFront lists l c = set lists l (c ∷ listOf lists l)
-
-unfoldable pub without : ℕ → List ℕ → List ℕ
-without c list = keep (λ (d : ℕ). not (eqb d c)) list
 
 unfoldable pub takeOut : List (List ℕ) → ℕ → ℕ → List (List ℕ)
 takeOut lists l c = set lists l (without c (listOf lists l))

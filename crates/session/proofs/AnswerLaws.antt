@@ -1,9 +1,10 @@
 -- Decision, backtrack, lookup and what only reads, way out by way out: the refusals in their order, and what an accepted call answers and leaves.
+use Rattle.layout.proofs.TrailLaws.{opposite-positive}
 use Rattle.layout.specs.Layout.{lengthAt, decisionsAt, conflictAt, backtracksAt, requiredLength, held}
 use Rattle.book.specs.Formula.{maxVariables, literalWithin}
 use Rattle.session.proofs.PassedLaws.{refused-first, none-first, well, own-refusal, facts, holding, long, conflict-is, decisions-are, count-is, count-within, backtracks-are}
 use Rattle.session.proofs.OpenLaws.{head-answer, becomes-overwritten}
-use Prim.Native.Nat.{ℕ, suc, _+_, _*_, _-_, _%_, _≤_, _<_}
+use Prim.Native.Nat.{ℕ, suc, _+_, _*_, _≤_, _<_}
 use mathlib.Core.Path.{_≡_, refl, ap, sym, _∙_}
 use mathlib.Core.Bool.{and-false, Bool, true, false, cond, _&&_, _||_}
 use mathlib.Core.List.{List}
@@ -13,7 +14,7 @@ use lib.Dec.{leb}
 use lib.ListN.{length, getD, length-append}
 use Rattle.book.specs.Numbers.{formulaOf, variablesOf, clausesOf}
 use Rattle.book.proofs.WellFormedLaws.{well-formed-sound}
-use Rattle.run.specs.Trail.{opposite, isTrue, isFalse, decisions}
+use Rattle.run.specs.Trail.{isTrue, isFalse, decisions}
 use Rattle.run.specs.Run.{Run, decide, backtrack}
 use Rattle.run.specs.Calls.{decideRefusal, backtrackRefusal, maxBacktracks}
 use Rattle.run.proofs.Theorems.{decide-valid, backtrack-valid, decide-extends}
@@ -31,10 +32,6 @@ use Rattle.session.specs.declared.Shown.the-variants as shown
 use Rattle.session.specs.declared.Count.the-variants as count
 use Rattle.session.specs.declared.Sum.the-variants as total
 use Rattle.layout.specs.declared.values.Value.the-variants as value
-
-opposite-positive : (v : ℕ) → opposite (2 * v) ≡ 2 * v + 1
-unfolding opposite
-opposite-positive v = let even : (2 * v) % 2 ≡ 0 = omega arith in rw (eq-eqb ((2 * v) % 2) 0 even)
 
 module _ (book session : List ℕ) where
   module _ (none : 0 ≡ readRefusal book session) where

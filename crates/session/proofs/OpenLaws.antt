@@ -1,7 +1,7 @@
 -- Opening and replay, way out by way out: the refusals in their order, and what an accepted one answers and leaves.
 use Rattle.layout.specs.Layout.{trailAt, requiredLength, encode}
 use Rattle.book.specs.Formula.{Formula}
-use Prim.Native.Nat.{ℕ, _+_, _-_, _≤_, _<_}
+use Prim.Native.Nat.{ℕ, _-_, _≤_, _<_}
 use mathlib.Core.Path.{_≡_, refl, ap, ap₂, sym, _∙_}
 use mathlib.Core.Bool.{Bool, true, false, cond, not}
 use mathlib.Core.List.{List, _++_}

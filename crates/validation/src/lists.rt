@@ -14,7 +14,7 @@ use layout::values::clause_start;
 use layout::values::wide;
 
 // One more than the nodes of the largest formula.
-const NODES: usize = 2 * MAX_CLAUSES + 1;
+const NODE_MARKS: usize = 2 * MAX_CLAUSES + 1;
 
 // The literal whose list a node belongs to, 0 where its clause has no watches.
 fn owner(book: &[u32], session: &[u32], node: u32) -> u32
@@ -34,7 +34,7 @@ fn owner(book: &[u32], session: &[u32], node: u32) -> u32
 }
 
 // The list of one literal: every node is one of the literal's and is met once. It is marked then.
-fn list_passes(book: &[u32], session: &[u32], marks: &mut [u8; NODES], literal: u32) -> bool
+fn list_passes(book: &[u32], session: &[u32], marks: &mut [u8; NODE_MARKS], literal: u32) -> bool
     requires { ⌜ Looking (now book) (now session) ⌝ }
     requires { ⌜ (2 ≤ literal) × (literal ≤ 2 * variablesOf (now book) + 1) ⌝ }
     requires { ⌜ Marks (now marks) ⌝ }
@@ -64,7 +64,7 @@ fn list_passes(book: &[u32], session: &[u32], marks: &mut [u8; NODES], literal: 
 }
 
 // The lists of all literals.
-fn all_lists_pass(book: &[u32], session: &[u32], marks: &mut [u8; NODES]) -> bool
+fn all_lists_pass(book: &[u32], session: &[u32], marks: &mut [u8; NODE_MARKS]) -> bool
     requires { ⌜ Looking (now book) (now session) ⌝ }
     requires { ⌜ Marks (now marks) ⌝ }
     requires { ⌜ ((n : ℕ) → getD (now marks) n 0 ≡ 0) ⌝ }
@@ -82,7 +82,7 @@ fn all_lists_pass(book: &[u32], session: &[u32], marks: &mut [u8; NODES]) -> boo
 }
 
 // A node of a watch is marked, and the link of any other is 0.
-fn node_passes(book: &[u32], session: &[u32], marks: &[u8; NODES], node: u32) -> bool
+fn node_passes(book: &[u32], session: &[u32], marks: &[u8; NODE_MARKS], node: u32) -> bool
     requires { ⌜ Looking (now book) (now session) ⌝ }
     requires { ⌜ (1 ≤ node) × (node ≤ 2 * clausesOf (now book)) ⌝ }
     ensures { λ r. ⌜ Says r (NodeGood (now (book .entry)) (now (session .entry)) (now (marks .entry)) node) ⌝ }
@@ -94,7 +94,7 @@ fn node_passes(book: &[u32], session: &[u32], marks: &[u8; NODES], node: u32) ->
     marks[wide(node)] != 0
 }
 
-fn nodes_pass(book: &[u32], session: &[u32], marks: &[u8; NODES]) -> bool
+fn nodes_pass(book: &[u32], session: &[u32], marks: &[u8; NODE_MARKS]) -> bool
     requires { ⌜ Looking (now book) (now session) ⌝ }
     ensures { λ r. ⌜ Says r (NodesGood (now (book .entry)) (now (session .entry)) (now (marks .entry))) ⌝ }
 {
@@ -114,7 +114,7 @@ pub(crate) fn lists_pass(book: &[u32], session: &[u32]) -> bool
     requires { ⌜ Looking (now book) (now session) ⌝ }
     ensures { λ r. ⌜ Says r (ListsGood (formulaOf (now (book .entry))) (now (session .entry))) ⌝ }
 {
-    let mut marks = [0u8; NODES];
+    let mut marks = [0u8; NODE_MARKS];
     if !all_lists_pass(book, session, &mut marks) {
         return false;
     }

@@ -18,7 +18,7 @@ use layout::values::opposite;
 use layout::values::wide;
 
 // One more than the places of the longest trail.
-const PLACES: usize = MAX_VARIABLES + 1;
+const PLACE_MARKS: usize = MAX_VARIABLES + 1;
 
 // The place of a true literal of a clause with only false ones before it, 0 where the clause implies none: one is open, or all are false.
 fn true_place(clause: &[u32], session: &[u32], variables: usize) -> usize
@@ -77,7 +77,7 @@ fn implied_place(clause: &[u32], session: &[u32], variables: usize) -> usize
 }
 
 // Each implied literal, whose level is that of the place before it, is marked.
-fn implied_marked(session: &[u32], variables: usize, marks: &[u8; PLACES]) -> bool
+fn implied_marked(session: &[u32], variables: usize, marks: &[u8; PLACE_MARKS]) -> bool
     requires { ⌜ Readable variables (now session) ⌝ }
     ensures { λ r. ⌜ Says r (ImpliedMarked variables (now (session .entry)) (now (marks .entry))) ⌝ }
 {
@@ -105,7 +105,7 @@ pub(crate) fn justified(book: &[u32], session: &[u32]) -> bool
 {
     let variables = book::variables(book);
     let clauses = book::clauses(book);
-    let mut marks = [0u8; PLACES];
+    let mut marks = [0u8; PLACE_MARKS];
     let mut c = 0;
     while c < clauses {
         let start = clause_start(book, c);

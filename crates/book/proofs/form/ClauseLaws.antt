@@ -12,7 +12,7 @@ use Rattle.base.specs.Lists.{all, member, distinct}
 use Rattle.base.proofs.Bools.{and-parts, refuted}
 use Rattle.base.proofs.Lists.{all-more}
 use Rattle.base.proofs.Members.{distinct-more, distinct-front}
-use Rattle.book.specs.Formula.{variableOf, literalWithin, soundClause}
+use Rattle.book.specs.Formula.{variableOf, literalWithin, soundClause, maxClause}
 use Rattle.book.specs.Inner.Marks.{Marked, variableMarks}
 use Rattle.book.proofs.SoundLaws.{literal-parts, literal-whole, clause-parts, clause-whole, clause-literal}
 use Rattle.book.proofs.marks.Laws.{marked-test, marked-more}
@@ -21,7 +21,7 @@ module _ (variables : ℕ) (clause : List ℕ) where
   pub refuse-empty : length clause < 1 → soundClause variables clause ≡ false
   refuse-empty h = refuted _ (λ e. omega (arith, clause-parts variables clause e))
 
-  pub refuse-long : 255 < length clause → soundClause variables clause ≡ false
+  pub refuse-long : maxClause < length clause → soundClause variables clause ≡ false
   refuse-long h = refuted _ (λ e. omega (arith, clause-parts variables clause e))
 
   pub refuse-low : (i : ℕ) → i < length clause → getD clause i 0 < 2 → soundClause variables clause ≡ false
@@ -42,7 +42,7 @@ unfolding all distinct
 passed-none variables tag clause marks m = record { bound = omega arith; within = refl; once = refl; marked = m }
 
 pub passed-all : (variables tag : ℕ) (clause marks : List ℕ) (i : ℕ) → Passed variables tag clause marks i → length clause ≤ i
-    → 1 ≤ length clause → length clause ≤ 255 → soundClause variables clause ≡ true
+    → 1 ≤ length clause → length clause ≤ maxClause → soundClause variables clause ≡ true
 passed-all variables tag clause marks i p end some few =
     let whole : take i clause ≡ clause = take-all i clause end in
     clause-whole variables clause

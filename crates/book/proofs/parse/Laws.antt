@@ -48,7 +48,7 @@ module _ (variables clauses : ℕ) where
   header-taken tokens e = rw e
 
 -- with V, C and L before them, the starts and literals written are the book numbers
-pub written-front : (numbers : List ℕ) (variables clauses total : ℕ) (done : List (List ℕ)) → Written numbers clauses done [] → length done ≡ clauses → length (flat done) ≡ total
+written-front : (numbers : List ℕ) (variables clauses total : ℕ) (done : List (List ℕ)) → Written numbers clauses done [] → length done ≡ clauses → length (flat done) ≡ total
     → take (clauses + total + 4) (set (set (set numbers 0 variables) 1 clauses) 2 total) ≡ numbersOf (record { variables = variables; clauses = done })
 unfolding numbersOf
 written-front [] variables clauses total done w c t = absurd (omega (arith, w .long))
@@ -63,3 +63,8 @@ written-front (n₀ ∷ n₁ ∷ n₂ ∷ rest) variables clauses total done w c
     ∙ (rw place at (w .literals-written))
     ∙ append-nil (flat done) in
     rw (count, take-add (suc clauses) total rest, heads, tails, c, t)
+
+-- the same where V and C are stored as they were read
+pub stored-front : (numbers : List ℕ) (v c w d total : ℕ) (done : List (List ℕ)) → w ≡ v → d ≡ c → Written numbers d done [] → length done ≡ d → length (flat done) ≡ total
+    → take (c + total + 4) (set (set (set numbers 0 v) 1 c) 2 total) ≡ numbersOf (record { variables = w; clauses = done })
+stored-front numbers v c w d total done same-variables same-clauses written counted all = rw (sym same-variables, sym same-clauses) (written-front numbers w d total done written counted all)

@@ -9,12 +9,15 @@ use borrow.Author.Needs.{needs}
 use Rattle.book.proofs.read.Statement.{statement}
 use Rattle.book.proofs.read.Tie as tie
 
+abbrev entry-before-parse : tie.After-parse → tie.Start
+entry-before-parse c = c .before .before .before .before .before
+
 -- the book that was read
 parsed : (c : tie.After-parse) {p : Parsed} →
-    let entry = c .before .before .before .before .before in
+    let entry = entry-before-parse c in
     c .parse .result ≡ p → ParsedSays (entry .args .text .now) (c .parse .last .1 .0) p
 parsed c e =
-    let entry = c .before .before .before .before .before in
+    let entry = entry-before-parse c in
     subst (ParsedSays (entry .args .text .now) (c .parse .last .1 .0)) e (c .parse .ensures)
 
 book-read : (c : tie.After-variables) →

@@ -1,18 +1,18 @@
 -- The clause that a walk stands at is taken out of its list.
-use Prim.Native.Nat.{ℕ, _+_, _*_, _-_, _≤_, _<_}
+use Prim.Native.Nat.{ℕ, _+_, _*_, _≤_, _<_}
 use native.Mathlib.Omega.{arith}
 use mathlib.Core.List.{List, [], _∷_, _++_}
 use mathlib.Core.Logic.{_⊎_, inl, inr, ⊎-elim}
 use mathlib.Core.Path.{_≡_, refl, ap, _∙_}
 use lib.ListN.{length, getD, set, length-set}
 use lib.Seq.{getD-set-same, getD-set-other}
-use Rattle.base.specs.Lists.{times}
+use Rattle.base.specs.Lists.{times, without}
 use Rattle.base.proofs.Bools.{alike}
 use Rattle.base.proofs.Members.{times-same, times-kept, times-kept-out}
 use Rattle.base.proofs.Occurrences.{times-append, keep-others}
 use Rattle.book.specs.Formula.{Formula}
 use Rattle.run.specs.Scan.{Cell}
-use Rattle.run.specs.Run.{size, listOf, without, takeOut}
+use Rattle.run.specs.Run.{size, listOf, takeOut}
 use Rattle.run.proofs.Order.{taken-out, taken-elsewhere, taken-length}
 use Rattle.layout.specs.Layout.{nodeOf, headSlot, linkSlot, clauseOfNode}
 use Rattle.layout.specs.Encodes.{Chain, nodesOf}

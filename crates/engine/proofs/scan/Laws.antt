@@ -35,9 +35,9 @@ open-false e = let z : _≡_ {A = ℕ} 0 1 = cc in omega arith
 true-false : True ≡ False → ⊥
 true-false e = let z : _≡_ {A = ℕ} 0 1 = cc in omega arith
 
-in-false : (trail : List Entry) (l : ℕ) → valueIn trail l ≡ False → (isTrue trail l ≡ false) × (isFalse trail l ≡ true)
+says-false : (trail : List Entry) (l : ℕ) → valueIn trail l ≡ False → (isTrue trail l ≡ false) × (isFalse trail l ≡ true)
 unfolding valueIn
-in-false trail l e = go (isTrue trail l) refl (isFalse trail l) refl e
+says-false trail l e = go (isTrue trail l) refl (isFalse trail l) refl e
   where
     go : (a : Bool) → isTrue trail l ≡ a → (b : Bool) → isFalse trail l ≡ b → cond a True (cond b False Open) ≡ False
         → (isTrue trail l ≡ false) × (isFalse trail l ≡ true)
@@ -45,9 +45,9 @@ in-false trail l e = go (isTrue trail l) refl (isFalse trail l) refl e
     go false p true q f = (p, q)
     go false p false q f = absurd (open-false f)
 
-in-open : (trail : List Entry) (l : ℕ) → valueIn trail l ≡ Open → (isTrue trail l ≡ false) × (isFalse trail l ≡ false)
+says-open : (trail : List Entry) (l : ℕ) → valueIn trail l ≡ Open → (isTrue trail l ≡ false) × (isFalse trail l ≡ false)
 unfolding valueIn
-in-open trail l e = go (isTrue trail l) refl (isFalse trail l) refl e
+says-open trail l e = go (isTrue trail l) refl (isFalse trail l) refl e
   where
     go : (a : Bool) → isTrue trail l ≡ a → (b : Bool) → isFalse trail l ≡ b → cond a True (cond b False Open) ≡ Open
         → (isTrue trail l ≡ false) × (isFalse trail l ≡ false)
@@ -55,9 +55,9 @@ in-open trail l e = go (isTrue trail l) refl (isFalse trail l) refl e
     go false p true q f = absurd (open-false (sym f))
     go false p false q f = (p, q)
 
-in-true : (trail : List Entry) (l : ℕ) → valueIn trail l ≡ True → isTrue trail l ≡ true
+says-true : (trail : List Entry) (l : ℕ) → valueIn trail l ≡ True → isTrue trail l ≡ true
 unfolding valueIn
-in-true trail l e = go (isTrue trail l) refl (isFalse trail l) refl e
+says-true trail l e = go (isTrue trail l) refl (isFalse trail l) refl e
   where
     go : (a : Bool) → isTrue trail l ≡ a → (b : Bool) → isFalse trail l ≡ b → cond a True (cond b False Open) ≡ True
         → isTrue trail l ≡ true
@@ -79,9 +79,9 @@ read-opposite entry l m other e = go (eqb entry 0) refl (eqb (entry % 2) (l % 2)
 
 pub reads-says : (values : List ℕ) (trail : List Entry) (l : ℕ) → Reads values trail → 2 ≤ l → variableOf l ≤ length values → (r : Value)
     → r ≡ valueRead (getD values (variableOf l - 1) 0) l → ValueSays trail l r
-reads-says values trail l reads low within Open e = in-open trail l (sym (e ∙ reads l low within))
-reads-says values trail l reads low within False e = in-false trail l (sym (e ∙ reads l low within))
-reads-says values trail l reads low within True e = (in-true trail l (sym (e ∙ reads l low within)), in-false trail (opposite l) there .0)
+reads-says values trail l reads low within Open e = says-open trail l (sym (e ∙ reads l low within))
+reads-says values trail l reads low within False e = says-false trail l (sym (e ∙ reads l low within))
+reads-says values trail l reads low within True e = (says-true trail l (sym (e ∙ reads l low within)), says-false trail (opposite l) there .0)
   where
     other : l % 2 ≡ opposite l % 2 → ⊥
     other s = ⊎-elim (λ p. omega arith) (λ p. omega arith) (opposite-cases l)

@@ -1,5 +1,5 @@
 -- What the contracts of src/scan.rt cite: what a scan asks, and its answer as the run has it.
-use Prim.Native.Nat.{ℕ, _-_, _≤_, _<_}
+use Prim.Native.Nat.{ℕ, _≤_, _<_}
 use mathlib.Core.List.{List}
 use mathlib.Core.Option.{none, some}
 use lib.ListN.{length, getD}

@@ -10,19 +10,25 @@ use borrow.Author.Needs.{needs}
 use Rattle.script.proofs.parse_line.Statement.{statement}
 use Rattle.script.proofs.parse_line.Tie as tie
 
+abbrev entry-before-number : tie.After-number → tie.Start
+entry-before-number c = c .before .before .before .before .before .before
+
 -- the answer of `number`, said of the line behind its first bytes
 digits-signed : (c : tie.After-number) {d : Digits} →
-    let entry = c .before .before .before .before .before .before in
+    let entry = entry-before-number c in
     c .number .result ≡ d → d ≡ digitsOf (drop 1 (entry .args .line .now))
 digits-signed c e =
-    let entry = c .before .before .before .before .before .before in
+    let entry = entry-before-number c in
     digits-behind 1 (entry .args .line .now) _ (sym e ∙ c .number .ensures)
 
+abbrev entry-before-number2 : tie.After-number2 → tie.Start
+entry-before-number2 c = c .before .before .before .before .before .before .before .before .before .before .before
+
 digits-back : (c : tie.After-number2) {d : Digits} →
-    let entry = c .before .before .before .before .before .before .before .before .before .before .before in
+    let entry = entry-before-number2 c in
     c .number2 .result ≡ d → d ≡ digitsOf (drop 2 (entry .args .line .now))
 digits-back c e =
-    let entry = c .before .before .before .before .before .before .before .before .before .before .before in
+    let entry = entry-before-number2 c in
     digits-behind 2 (entry .args .line .now) _ (sym e ∙ c .number2 .ensures)
 
 returns : tie.Need-returns

@@ -1,5 +1,5 @@
 -- `checks` meets its contract. Assumes nothing.
-use Prim.Native.Nat.{ℕ, _-_}
+use Prim.Native.Nat.{ℕ}
 use mathlib.Core.List.{List}
 use mathlib.Core.Path.{_≡_, sym, ap, ap₂, _∙_}
 use native.Mathlib.Omega.{arith}
@@ -32,8 +32,8 @@ none c = sym (c .if1 .left) ∙ c .before .validate .ensures
 
 returns : tie.Need-returns
 returns c =
-    let start = c .before .before .before .before .before in
-    copy-refused (start .args .book .now) (start .args .session .now) checksOfRun (start .args .out .now) _ (c .before .validate .ensures) (c .if1 .taken)
+    let entry = c .before .before .before .before .before in
+    copy-refused (entry .args .book .now) (entry .args .session .now) checksOfRun (entry .args .out .now) _ (c .before .validate .ensures) (c .if1 .taken)
 
 clauses-requires : tie.Need-clauses-requires
 clauses-requires c κs = search needs

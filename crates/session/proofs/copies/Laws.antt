@@ -6,6 +6,7 @@ use native.Mathlib.Numerals.{add-one}
 use native.Mathlib.Omega.{arith}
 use lib.ListN.{length, getD, take, drop, drop-of-length-le}
 use lib.Seq.{drop-cons, take-all}
+use Rattle.run.specs.Run.{maxCount}
 use Rattle.base.specs.Lists.{sum, copied}
 use Rattle.base.proofs.Copies.{Copied}
 
@@ -13,12 +14,12 @@ use Rattle.base.proofs.Copies.{Copied}
 pub record Summed (numbers : List ℕ) (s i : ℕ) : Type 0 where
   pub within : i ≤ length numbers
   pub rest : s + sum (drop i numbers) ≡ sum numbers
-  pub small : s ≤ 4294967295 * i
+  pub small : s ≤ maxCount * i
 
 pub summed-none : (numbers : List ℕ) → Summed numbers 0 0
 summed-none numbers = record { within = omega arith; rest = omega arith; small = omega arith }
 
-pub summed-more : (numbers : List ℕ) (s i n : ℕ) → Summed numbers s i → i < length numbers → n ≡ getD numbers i 0 → n ≤ 4294967295 → Summed numbers (s + n) (i + 1)
+pub summed-more : (numbers : List ℕ) (s i n : ℕ) → Summed numbers s i → i < length numbers → n ≡ getD numbers i 0 → n ≤ maxCount → Summed numbers (s + n) (i + 1)
 unfolding sum
 summed-more numbers s i n r h e fits =
     let here : sum (drop i numbers) ≡ getD numbers i 0 + sum (drop (i + 1) numbers) = rw (add-one i) (ap sum (drop-cons numbers i 0 h)) in

@@ -32,8 +32,8 @@ none c = sym (c .if1 .left) ∙ c .before .validate .ensures
 
 returns : tie.Need-returns
 returns c =
-    let start = c .before .before .before .before in
-    decision-first (start .args .book .now) (start .args .session .now) _ _ (c .before .validate .ensures) (c .if1 .taken)
+    let entry = c .before .before .before .before in
+    decision-first (entry .args .book .now) (entry .args .session .now) _ _ (c .before .validate .ensures) (c .if1 .taken)
 
 returns-2 : tie.Need-returns-2
 returns-2 c = literal-low (book (c .before)) (session (c .before)) (none (c .before)) _ (c .if2 .taken)
@@ -59,12 +59,12 @@ returns-3 c =
     let passed = c .before .before .before .before in
     literal-high (book passed) (session passed) (none passed) _ (omega (arith, c .before .wide .ensures, c .before .before .variables .ensures, c .if3 .taken))
 
-abbrev else1-of-else3 : tie.Else3 → tie.Else1
-else1-of-else3 c = c .before .before .before .before
+abbrev else1-before-else3 : tie.Else3 → tie.Else1
+else1-before-else3 c = c .before .before .before .before
 
 -- the literal is one of the variables'
 high : (c : tie.Else3) →
-    let else1 = else1-of-else3 c in
+    let else1 = else1-before-else3 c in
     start else1 .args .literal ≤ 2 * variablesOf (book else1) + 1
 high c = omega (arith, c .before .wide .ensures, c .before .before .variables .ensures, c .if3 .left)
 
@@ -108,21 +108,21 @@ value-is c =
 returns-5 : tie.Need-returns-5
 returns-5 c =
     let else3 = c .before .before .before .before .before in
-    let passed = else1-of-else3 else3 in
+    let passed = else1-before-else3 else3 in
     decision-open (book passed) (session passed) (none passed) (start passed .args .literal) (else3 .before .before .before .if2 .left) (high else3) (c .before .before .before .if4 .left)
     (sym (c .enum-told .given .1) ∙ value-is (c .before .before))
 
 returns-6 : tie.Need-returns-6
 returns-6 c =
     let else3 = c .before .before .before .before .before in
-    let passed = else1-of-else3 else3 in
+    let passed = else1-before-else3 else3 in
     decision-assigned (book passed) (session passed) (none passed) (start passed .args .literal) (else3 .before .before .before .if2 .left) (high else3) (c .before .before .before .if4 .left)
     True (λ e. let z : _≡_ {A = ℕ} 0 1 = cc in omega arith) (sym (c .enum-told2 .given .1) ∙ value-is (c .before .before))
 
 returns-7 : tie.Need-returns-7
 returns-7 c =
     let else3 = c .before .before .before .before .before in
-    let passed = else1-of-else3 else3 in
+    let passed = else1-before-else3 else3 in
     decision-assigned (book passed) (session passed) (none passed) (start passed .args .literal) (else3 .before .before .before .if2 .left) (high else3) (c .before .before .before .if4 .left)
     False (λ e. let z : _≡_ {A = ℕ} 0 1 = cc in omega arith) (sym (c .enum-told3 .given .1) ∙ value-is (c .before .before))
 

@@ -30,8 +30,8 @@ none c = sym (c .if1 .left) ∙ c .before .validate .ensures
 
 returns : tie.Need-returns
 returns c =
-    let start = c .before .before .before .before in
-    lookup-refused (start .args .book .now) (start .args .session .now) _ _ (c .before .validate .ensures) (c .if1 .taken)
+    let entry = c .before .before .before .before in
+    lookup-refused (entry .args .book .now) (entry .args .session .now) _ _ (c .before .validate .ensures) (c .if1 .taken)
 
 returns-2 : tie.Need-returns-2
 returns-2 c = variable-none (book (c .before)) (session (c .before)) (none (c .before)) _ (c .if2 .taken)

@@ -103,13 +103,13 @@ literal-fault-requires c κs =
     let entry = c .before .before .before .before .before .before .before in
     (entry .pre .1, omega arith, omega arith)
 
-abbrev entry-of-after-l : tie.After-l Inv-loop μ-loop → tie.Start Inv-loop μ-loop
-entry-of-after-l c = c .before .before .before .before .before
+abbrev entry-before-l : tie.After-l Inv-loop μ-loop → tie.Start Inv-loop μ-loop
+entry-before-l c = c .before .before .before .before .before
 
 returns-6 : tie.Need-returns-6 Inv-loop μ-loop
 returns-6 c =
     let after-l = c .before .before .before .before in
-    let entry = entry-of-after-l after-l in
+    let entry = entry-before-l after-l in
     so-far-fault (after-l .before .before .before .loop .inv) (after-l .l .given .0 .0) (c .before .literal-fault .result) (entry .pre .1) (c .before .literal-fault .ensures .0) _ (stepped (after-l .before .before) (after-l .l .given .1)) (c .if4 .taken)
 
 add-numbers-2 : tie.Need-add-numbers-2 Inv-loop μ-loop
@@ -121,13 +121,13 @@ add-numbers-3 c = omega arith
 mul-numbers-2 : tie.Need-mul-numbers-2 Inv-loop μ-loop
 mul-numbers-2 c = omega arith
 
-abbrev after-l-of-else4 : tie.Else4 Inv-loop μ-loop → tie.After-l Inv-loop μ-loop
-after-l-of-else4 c = c .before .before .before .before
+abbrev l-before-else4 : tie.Else4 Inv-loop μ-loop → tie.After-l Inv-loop μ-loop
+l-before-else4 c = c .before .before .before .before
 
 element-write-numbers-3 : tie.Need-element-write-numbers-3 Inv-loop μ-loop
 element-write-numbers-3 c =
-    let after-l = after-l-of-else4 c in
-    let entry = entry-of-after-l after-l in
+    let after-l = l-before-else4 c in
+    let entry = entry-before-l after-l in
     omega (arith, entry .pre .2, total-below (after-l .before .before .before .loop .inv) (after-l .l .given .0 .0) (c .before .literal-fault .result) (entry .pre .1) (c .before .literal-fault .ensures .0) (c .if4 .left) (entry .pre .2))
 
 add-total : tie.Need-add-total Inv-loop μ-loop
@@ -135,14 +135,14 @@ add-total c = omega arith
 
 loop-less-2 : tie.Need-loop-less-2 Inv-loop μ-loop
 loop-less-2 c =
-    let after-l = after-l-of-else4 c in
+    let after-l = l-before-else4 c in
     let step = stepped (after-l .before .before) (after-l .l .given .1) in
     omega (arith, step .ahead, step .within)
 
 loop-again-2 : tie.Need-loop-again-2 Inv-loop μ-loop
 loop-again-2 c =
-    let after-l = after-l-of-else4 c in
-    let entry = entry-of-after-l after-l in
+    let after-l = l-before-else4 c in
+    let entry = entry-before-l after-l in
     rw (c .before .literal-fault .ensures .1 (c .if4 .left))
     (so-far-literal (after-l .before .before .before .loop .inv) (after-l .l .given .0 .0) (c .before .literal-fault .result) (entry .pre .1) (c .before .literal-fault .ensures .0) (c .if4 .left) (entry .pre .2) _ (stepped (after-l .before .before) (after-l .l .given .1)))
 

@@ -39,17 +39,17 @@ returns-4 c =
     let at-loop = c .before .before .before .before .before in
     not-a-digit (at-loop .loop .inv) (search needs) (digit-high _ (omega arith))
 
-abbrev at-loop-of-else4 : tie.Else4 Inv-loop μ-loop → tie.At-loop Inv-loop μ-loop
-at-loop-of-else4 c = c .before .before .before .before .before
+abbrev loop-before-else4 : tie.Else4 Inv-loop μ-loop → tie.At-loop Inv-loop μ-loop
+loop-before-else4 c = c .before .before .before .before .before
 
 mul-value : tie.Need-mul-value Inv-loop μ-loop
 mul-value c =
-    let at-loop = at-loop-of-else4 c in
+    let at-loop = loop-before-else4 c in
     omega (arith, value-small (at-loop .loop .inv) (omega arith))
 
 add-value : tie.Need-add-value Inv-loop μ-loop
 add-value c =
-    let at-loop = at-loop-of-else4 c in
+    let at-loop = loop-before-else4 c in
     omega (arith, value-small (at-loop .loop .inv) (omega arith))
 
 add-i : tie.Need-add-i Inv-loop μ-loop
@@ -60,7 +60,7 @@ loop-less c = search needs
 
 loop-again : tie.Need-loop-again Inv-loop μ-loop
 loop-again c =
-    let at-loop = at-loop-of-else4 c in
+    let at-loop = loop-before-else4 c in
     rw (c .before .before .wide .ensures)
     (digits-step (at-loop .loop .inv) (search needs) (omega arith) (omega arith))
 

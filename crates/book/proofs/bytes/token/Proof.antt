@@ -10,12 +10,15 @@ use borrow.Author.Needs.{needs}
 use Rattle.book.proofs.bytes.token.Statement.{statement}
 use Rattle.book.proofs.bytes.token.Tie as tie
 
+abbrev entry-before-number : tie.After-number → tie.Start
+entry-before-number c = c .before .before .before .before .before .before
+
 -- the answer of `number`, said of the word behind its sign
 digits-signed : (c : tie.After-number) {d : Digits} →
-    let entry = c .before .before .before .before .before .before in
+    let entry = entry-before-number c in
     c .number .result ≡ d → d ≡ digitsOf (drop 1 (entry .args .word .now))
 digits-signed c e =
-    let entry = c .before .before .before .before .before .before in
+    let entry = entry-before-number c in
     digits-behind 1 (entry .args .word .now) _ (sym e ∙ c .number .ensures)
 
 returns : tie.Need-returns
@@ -42,17 +45,17 @@ enum-told c = search needs
 enum-known-variable : tie.Need-enum-known-variable
 enum-known-variable c = search needs
 
-abbrev after-number-of-else3 : tie.Else3 → tie.After-number
-after-number-of-else3 c = c .before .before .before .before
+abbrev number-before-else3 : tie.Else3 → tie.After-number
+number-before-else3 c = c .before .before .before .before
 
 mul-t17 : tie.Need-mul-t17
 mul-t17 c =
-    let after-number = after-number-of-else3 c in
+    let after-number = number-before-else3 c in
     omega (arith, value-below _ _ (digits-signed after-number (c .before .before .variable .given .1)))
 
 add-t18 : tie.Need-add-t18
 add-t18 c =
-    let after-number = after-number-of-else3 c in
+    let after-number = number-before-else3 c in
     omega (arith, value-below _ _ (digits-signed after-number (c .before .before .variable .given .1)))
 
 number-requires-2 : tie.Need-number-requires-2
@@ -81,7 +84,7 @@ returns-3 c =
 
 returns-4 : tie.Need-returns-4
 returns-4 c =
-    let after-number = after-number-of-else3 c in
+    let after-number = number-before-else3 c in
     sym (token-signed _ (omega arith) (after-number .before .before .if2 .taken) ∙ some-digits _ _ (digits-signed after-number (c .before .before .variable .given .1)) (c .if3 .left) .0)
 
 returns-5 : tie.Need-returns-5

@@ -4,6 +4,7 @@ use Prim.Native.Nat.{_-_, _/_, _≤_}
 use mathlib.Core.Path.{sym, _∙_}
 use native.Mathlib.Omega.{arith}
 use lib.ListN.{length}
+use Rattle.book.specs.Formula.{maxClause}
 use Rattle.book.proofs.form.ClauseLaws.{Passed, passed-none, passed-more, passed-all, refuse-empty, refuse-long, refuse-low, refuse-high, refuse-repeated}
 use Rattle.book.proofs.marks.Laws.{marked-more}
 use Rattle.book.proofs.form.clause_sound.Statement.{statement}
@@ -11,7 +12,7 @@ use Rattle.book.proofs.form.clause_sound.Tie as tie
 
 abbrev Inv-loop : tie.InvT-loop
 Inv-loop clause variables tag marks₀ i₀ marks i =
-    (1 ≤ length clause) × (length clause ≤ 255) × Passed variables tag clause marks i
+    (1 ≤ length clause) × (length clause ≤ maxClause) × Passed variables tag clause marks i
 
 abbrev μ-loop : tie.MeasureT-loop
 μ-loop clause variables tag marks₀ i₀ marks i = length clause - i

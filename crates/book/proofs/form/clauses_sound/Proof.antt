@@ -88,14 +88,14 @@ begins : (c : tie.After-wide2 Inv-loop μ-loop)
     ≡ clauseStart (book-of c) (clause-of c)
 begins c = omega arith
 
-abbrev entry-of-after-wide2 : tie.After-wide2 Inv-loop μ-loop → tie.Start Inv-loop μ-loop
-entry-of-after-wide2 c = c .before .before .before .before .before .before .before
+abbrev entry-before-wide2 : tie.After-wide2 Inv-loop μ-loop → tie.Start Inv-loop μ-loop
+entry-before-wide2 c = c .before .before .before .before .before .before .before
 
 ends : (c : tie.After-wide2 Inv-loop μ-loop)
     → clauses-of c + 4 + c .wide2 .result
     ≡ clauseStart (book-of c) (clause-of c + 1)
 ends c =
-    let entry = entry-of-after-wide2 c in
+    let entry = entry-before-wide2 c in
     let same : 4 + clause-of c ≡ 3 + (clause-of c + 1) = omega arith in
     let read = c .wide2 .ensures .0 ∙ ap (λ (i : ℕ). getD (book-of c) i 0) same in
     omega (arith, read, entry .pre .1)
@@ -105,7 +105,7 @@ inside : (c : tie.After-wide2 Inv-loop μ-loop)
     → (c .before .before .wide .result ≤ c .wide2 .result)
     × (clauses-of c + 4 + c .wide2 .result ≤ length (book-of c))
 inside c =
-    let entry = entry-of-after-wide2 c in
+    let entry = entry-before-wide2 c in
     let bounds = clause-inside _ (entry .pre .0) (clause-of c) _ _ (omega arith) (begins c) (ends c) in
     (omega (arith, bounds), bounds .1)
 
@@ -129,12 +129,12 @@ clause-sound-requires c κs =
 -- the answer is the clause's
 clause-answer : (c : tie.After-clause-sound Inv-loop μ-loop) →
     let after-wide2 = c .before .before .before in
-    let entry = entry-of-after-wide2 after-wide2 in
+    let entry = entry-before-wide2 after-wide2 in
     c .clause-sound .result
     ≡ soundClause (entry .args .variables) (clauseAt (book-of after-wide2) (clause-of after-wide2))
 clause-answer c =
     let after-wide2 = c .before .before .before in
-    let entry = entry-of-after-wide2 after-wide2 in
+    let entry = entry-before-wide2 after-wide2 in
     c .clause-sound .ensures .0
     ∙ ap
     (soundClause (entry .args .variables))

@@ -27,36 +27,48 @@ start-of c = c .before .before .before .before .before .before .args .at
 p-says : (c : tie.After-next-keyword) {k : Keyword} → c .next-keyword .result ≡ k → KeywordSays (text-of c) (start-of c) (112 ∷ []) k
 p-says c e = subst (KeywordSays (text-of c) (start-of c) (112 ∷ [])) e (c .next-keyword .ensures)
 
+abbrev next-keyword-before-next-keyword2 : tie.After-next-keyword2 → tie.After-next-keyword
+next-keyword-before-next-keyword2 c = c .before .before .before .before .before
+
 cnf-says : (c : tie.After-next-keyword2) {k : Keyword} →
-    let after-next-keyword = c .before .before .before .before .before in
+    let after-next-keyword = next-keyword-before-next-keyword2 c in
     c .next-keyword2 .result ≡ k
     → KeywordSays (text-of after-next-keyword) (c .before .before .before .behind-p .given .0 .0 .at) (99 ∷ 110 ∷ 102 ∷ []) k
 cnf-says c e =
-    let after-next-keyword = c .before .before .before .before .before in
+    let after-next-keyword = next-keyword-before-next-keyword2 c in
     subst (KeywordSays (text-of after-next-keyword) (c .before .before .before .behind-p .given .0 .0 .at) (99 ∷ 110 ∷ 102 ∷ [])) e (c .next-keyword2 .ensures)
 
+abbrev next-keyword-before-next-field : tie.After-next-field → tie.After-next-keyword
+next-keyword-before-next-field c = c .before .before .before .before .before .before .before .before .before
+
 variables-say : (c : tie.After-next-field) {f : Field} →
-    let after-next-keyword = c .before .before .before .before .before .before .before .before .before in
+    let after-next-keyword = next-keyword-before-next-field c in
     c .next-field .result ≡ f
     → FieldSays (text-of after-next-keyword) (c .before .before .behind-cnf .given .0 .0 .at) f
 variables-say c e =
-    let after-next-keyword = c .before .before .before .before .before .before .before .before .before in
+    let after-next-keyword = next-keyword-before-next-field c in
     subst (FieldSays (text-of after-next-keyword) (c .before .before .behind-cnf .given .0 .0 .at)) e (c .next-field .ensures)
 
+abbrev next-keyword-before-next-field2 : tie.After-next-field2 → tie.After-next-keyword
+next-keyword-before-next-field2 c = c .before .before .before .before .before .before .before .before .before .before .before .before .before
+
 clauses-say : (c : tie.After-next-field2) {f : Field} →
-    let after-next-keyword = c .before .before .before .before .before .before .before .before .before .before .before .before .before in
+    let after-next-keyword = next-keyword-before-next-field2 c in
     c .next-field2 .result ≡ f
     → FieldSays (text-of after-next-keyword) (c .before .before .variables .given .0 .1 .0 .at) f
 clauses-say c e =
-    let after-next-keyword = c .before .before .before .before .before .before .before .before .before .before .before .before .before in
+    let after-next-keyword = next-keyword-before-next-field2 c in
     subst (FieldSays (text-of after-next-keyword) (c .before .before .variables .given .0 .1 .0 .at)) e (c .next-field2 .ensures)
 
+abbrev next-keyword-before-next-in-line : tie.After-next-in-line → tie.After-next-keyword
+next-keyword-before-next-in-line c = c .before .before .before .before .before .before .before .before .before .before .before .before .before .before .before .before .before
+
 end-says : (c : tie.After-next-in-line) {word : LineWord} →
-    let after-next-keyword = c .before .before .before .before .before .before .before .before .before .before .before .before .before .before .before .before .before in
+    let after-next-keyword = next-keyword-before-next-in-line c in
     c .next-in-line .result ≡ word
     → SteppedInLine (text-of after-next-keyword) (c .before .before .clauses .given .0 .1 .0 .at) word
 end-says c e =
-    let after-next-keyword = c .before .before .before .before .before .before .before .before .before .before .before .before .before .before .before .before .before in
+    let after-next-keyword = next-keyword-before-next-in-line c in
     subst (SteppedInLine (text-of after-next-keyword) (c .before .before .clauses .given .0 .1 .0 .at)) e (c .next-in-line .ensures)
 
 -- the words passed so far
@@ -65,29 +77,29 @@ p-passes : (c : tie.After-behind-p) →
     WordPasses isP (text-of after-next-keyword) (start-of after-next-keyword) (c .behind-p .given .0 .0 .at)
 p-passes c = p-says (c .before .before) (c .behind-p .given .1)
 
-abbrev after-behind-p-of-after-behind-cnf : tie.After-behind-cnf → tie.After-behind-p
-after-behind-p-of-after-behind-cnf c = c .before .before .before .before .before
+abbrev behind-p-before-behind-cnf : tie.After-behind-cnf → tie.After-behind-p
+behind-p-before-behind-cnf c = c .before .before .before .before .before
 
 cnf-passes : (c : tie.After-behind-cnf) →
-    let after-behind-p = after-behind-p-of-after-behind-cnf c in
+    let after-behind-p = behind-p-before-behind-cnf c in
     WordPasses isCnf (text-of (after-behind-p .before .before)) (after-behind-p .behind-p .given .0 .0 .at) (c .behind-cnf .given .0 .0 .at)
 cnf-passes c = cnf-says (c .before .before) (c .behind-cnf .given .1)
 
-abbrev after-behind-cnf-of-after-variables : tie.After-variables → tie.After-behind-cnf
-after-behind-cnf-of-after-variables c = c .before .before .before .before
+abbrev behind-cnf-before-variables : tie.After-variables → tie.After-behind-cnf
+behind-cnf-before-variables c = c .before .before .before .before
 
 variables-pass : (c : tie.After-variables) →
-    let after-behind-cnf = after-behind-cnf-of-after-variables c in
+    let after-behind-cnf = behind-cnf-before-variables c in
     let after-next-keyword = after-behind-cnf .before .before .before .before .before .before .before in
     (p : WordPasses unsigned (text-of after-next-keyword) (after-behind-cnf .behind-cnf .given .0 .0 .at) (c .variables .given .0 .1 .0 .at))
     × (decimal 0 (p .word) ≡ c .variables .given .0 .0)
 variables-pass c = variables-say (c .before .before) (c .variables .given .1)
 
-abbrev after-variables-of-after-clauses : tie.After-clauses → tie.After-variables
-after-variables-of-after-clauses c = c .before .before .before .before
+abbrev variables-before-clauses : tie.After-clauses → tie.After-variables
+variables-before-clauses c = c .before .before .before .before
 
 clauses-pass : (c : tie.After-clauses) →
-    let after-variables = after-variables-of-after-clauses c in
+    let after-variables = variables-before-clauses c in
     let after-next-keyword = after-variables .before .before .before .before .before .before .before .before .before .before .before in
     (p : WordPasses unsigned (text-of after-next-keyword) (after-variables .variables .given .0 .1 .0 .at) (c .clauses .given .0 .1 .0 .at))
     × (decimal 0 (p .word) ≡ c .clauses .given .0 .0)
@@ -135,13 +147,13 @@ enum-known-behind-cnf c = search needs
 enum-told-2 : tie.Need-enum-told-2
 enum-told-2 c = search needs
 
-abbrev entry-of-after-behind-p : tie.After-behind-p → tie.Start
-entry-of-after-behind-p c = c .before .before .before .before .before .before .before .before
+abbrev entry-before-behind-p : tie.After-behind-p → tie.Start
+entry-before-behind-p c = c .before .before .before .before .before .before .before .before
 
 returns-4 : tie.Need-returns-4
 returns-4 c =
     let after-behind-p = c .before .before .before .before .before in
-    let entry = entry-of-after-behind-p after-behind-p in
+    let entry = entry-before-behind-p after-behind-p in
     malformed-words _ _ (entry .pre .1)
     (second-fails (p-passes after-behind-p) (cnf-says (c .before .before) (c .enum-told2 .given .1)))
 
@@ -157,8 +169,8 @@ enum-told-3 c = search needs
 returns-5 : tie.Need-returns-5
 returns-5 c =
     let after-behind-cnf = c .before .before .before .before in
-    let after-behind-p = after-behind-p-of-after-behind-cnf after-behind-cnf in
-    let entry = entry-of-after-behind-p after-behind-p in
+    let after-behind-p = behind-p-before-behind-cnf after-behind-cnf in
+    let entry = entry-before-behind-p after-behind-p in
     malformed-words _ _ (entry .pre .1)
     (third-fails (p-passes after-behind-p) (cnf-passes after-behind-cnf) (variables-say (c .before .before) (c .enum-told3 .given .1)))
 
@@ -174,9 +186,9 @@ enum-told-4 c = search needs
 returns-6 : tie.Need-returns-6
 returns-6 c =
     let after-variables = c .before .before .before .before in
-    let after-behind-cnf = after-behind-cnf-of-after-variables after-variables in
-    let after-behind-p = after-behind-p-of-after-behind-cnf after-behind-cnf in
-    let entry = entry-of-after-behind-p after-behind-p in
+    let after-behind-cnf = behind-cnf-before-variables after-variables in
+    let after-behind-p = behind-p-before-behind-cnf after-behind-cnf in
+    let entry = entry-before-behind-p after-behind-p in
     malformed-words _ _ (entry .pre .1)
     (fourth-fails (p-passes after-behind-p) (cnf-passes after-behind-cnf) (variables-pass after-variables .0) (clauses-say (c .before .before) (c .enum-told4 .given .1)))
 
@@ -192,19 +204,19 @@ enum-known-next c = search needs
 returns-7 : tie.Need-returns-7
 returns-7 c =
     let after-clauses = c .before .before .before .before in
-    let after-variables = after-variables-of-after-clauses after-clauses in
-    let after-behind-cnf = after-behind-cnf-of-after-variables after-variables in
-    let after-behind-p = after-behind-p-of-after-behind-cnf after-behind-cnf in
-    let entry = entry-of-after-behind-p after-behind-p in
+    let after-variables = variables-before-clauses after-clauses in
+    let after-behind-cnf = behind-cnf-before-variables after-variables in
+    let after-behind-p = behind-p-before-behind-cnf after-behind-cnf in
+    let entry = entry-before-behind-p after-behind-p in
     malformed-words _ _ (entry .pre .1)
     (fifth-word (p-passes after-behind-p) (cnf-passes after-behind-cnf) (variables-pass after-variables .0) (clauses-pass after-clauses .0) (end-says (c .before .before) (c .enum-told5 .given .1)))
 
 returns-8 : tie.Need-returns-8
 returns-8 c =
     let after-clauses = c .before .before .before .before .before in
-    let after-variables = after-variables-of-after-clauses after-clauses in
-    let after-behind-cnf = after-behind-cnf-of-after-variables after-variables in
-    let after-behind-p = after-behind-p-of-after-behind-cnf after-behind-cnf in
+    let after-variables = variables-before-clauses after-clauses in
+    let after-behind-cnf = behind-cnf-before-variables after-variables in
+    let after-behind-p = behind-p-before-behind-cnf after-behind-cnf in
     let else2 = after-behind-p .before .before .before .before in
     let entry = else2 .before .before .before .before in
     let p = p-passes after-behind-p in

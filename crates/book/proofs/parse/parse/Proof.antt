@@ -10,17 +10,17 @@ use Rattle.book.specs.Inner.Cursor.{tokensHere}
 use Rattle.book.specs.Inner.Header.{HeaderSays}
 use Rattle.book.specs.Inner.Body.{BodySays}
 use Rattle.book.specs.declared.body.Body.{Body}
-use Rattle.book.proofs.parse.Laws.{text-start, outside-none, outside-variables, outside-clauses, within-limits, header-refused, header-taken, written-front}
+use Rattle.book.proofs.parse.Laws.{text-start, outside-none, outside-variables, outside-clauses, within-limits, header-refused, header-taken, stored-front}
 use borrow.Author.Needs.{needs}
 use Rattle.book.proofs.parse.parse.Statement.{statement}
 use Rattle.book.proofs.parse.parse.Tie as tie
 
-abbrev entry-of-after-variables : tie.After-variables → tie.Start
-entry-of-after-variables c = c .before .before .before .before .before
+abbrev entry-before-variables : tie.After-variables → tie.Start
+entry-before-variables c = c .before .before .before .before .before
 
 -- the answer to the text, from its header on
 headed : (c : tie.After-variables) →
-    let entry = entry-of-after-variables c in
+    let entry = entry-before-variables c in
     (c .variables .given .0 .1 .1 .0 .at ≤ length (entry .args .text .now))
     × (walkLines (linesOf (entry .args .text .now)) ≡ walkUnder (header (c .variables .given .0 .0) (c .variables .given .0 .1 .0)) (tokensHere (entry .args .text .now) (c .variables .given .0 .1 .1 .0 .at)))
 headed c =
@@ -32,7 +32,7 @@ headed c =
 -- within the limits the clauses decide
 limited : (c : tie.After-wide2) →
     let after-variables = c .before .before .before .before .before .before in
-    let entry = entry-of-after-variables after-variables in
+    let entry = entry-before-variables after-variables in
     walkLines (linesOf (entry .args .text .now))
     ≡ walk (c .before .wide .result) (c .wide2 .result) [] [] (tokensHere (entry .args .text .now) (after-variables .variables .given .0 .1 .1 .0 .at))
 limited c =
@@ -41,13 +41,19 @@ limited c =
     (headed (else1 .before .before) .1
     ∙ header-taken _ _ _ (within-limits _ _ (else1 .if1 .left) (c .before .before .before .if2 .left) (c .before .before .if3 .left)))
 
+abbrev entry-before-clauses-at : tie.After-clauses-at → tie.Start
+entry-before-clauses-at c = c .before .before .before .before .before .before .before .before .before .before .before .before .before
+
+abbrev variables-before-clauses-at : tie.After-clauses-at → tie.After-variables
+variables-before-clauses-at c = c .before .before .before .before .before .before .before .before
+
 -- what the clauses say, by the answer
-abbrev body-says : (c : tie.After-clauses-at) {body : Body} → c .clauses-at .result ≡ body
-    → BodySays (c .before .before .before .before .before .before .before .before .before .before .before .before .before .args .text .now) (c .before .before .before .before .before .before .before .before .variables .given .0 .1 .1 .0 .at) (c .before .before .before .wide .result) (c .before .before .wide2 .result)
+body-says : (c : tie.After-clauses-at) {body : Body} → c .clauses-at .result ≡ body
+    → BodySays (entry-before-clauses-at c .args .text .now) (variables-before-clauses-at c .variables .given .0 .1 .1 .0 .at) (c .before .before .before .wide .result) (c .before .before .wide2 .result)
     (c .clauses-at .last .1 .1 .1 .1 .0) body
 body-says c e =
     subst
-    (BodySays (c .before .before .before .before .before .before .before .before .before .before .before .before .before .args .text .now) (c .before .before .before .before .before .before .before .before .variables .given .0 .1 .1 .0 .at) (c .before .before .before .wide .result) (c .before .before .wide2 .result)
+    (BodySays (entry-before-clauses-at c .args .text .now) (variables-before-clauses-at c .variables .given .0 .1 .1 .0 .at) (c .before .before .before .wide .result) (c .before .before .wide2 .result)
     (c .clauses-at .last .1 .1 .1 .1 .0))
     e
     (c .clauses-at .ensures)
@@ -90,7 +96,7 @@ wide-requires-2 c κs = search needs
 clauses-at-requires : tie.Need-clauses-at-requires
 clauses-at-requires c κs =
     let after-variables = c .before .before .before .before .before .before .before in
-    let entry = entry-of-after-variables after-variables in
+    let entry = entry-before-variables after-variables in
     (headed after-variables .0, omega arith, omega arith, entry .pre)
 
 enum-known-number : tie.Need-enum-known-number
@@ -126,7 +132,7 @@ returns-6 c =
       few-clauses = after-wide2 .before .before .if3 .left;
       few-literals = read .4;
       long = simp length-set (read .5 .long);
-      front = rw (sym (after-wide2 .wide2 .ensures .0), sym (after-wide2 .before .wide .ensures .0)) (written-front _ (after-wide2 .before .wide .result) (after-wide2 .wide2 .result) _ (read .0) (read .5) (read .2) (read .3));
+      front = stored-front _ _ _ _ _ _ (read .0) (after-wide2 .before .wide .ensures .0) (after-wide2 .wide2 .ensures .0) (read .5) (read .2) (read .3);
     }
 
 pub parse-spec : {M : Type 1} → statement M

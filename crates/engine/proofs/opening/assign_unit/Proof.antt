@@ -116,34 +116,37 @@ enum-told c = search needs
 enum-told-2 : tie.Need-enum-told-2
 enum-told-2 c = search needs
 
-abbrev after-clause-start2-of-after-enum-told2 : tie.After-enum-told2 → tie.After-clause-start2
-after-clause-start2-of-after-enum-told2 c = c .before .before .before .before .before .before
+abbrev clause-start2-before-enum-told2 : tie.After-enum-told2 → tie.After-clause-start2
+clause-start2-before-enum-told2 c = c .before .before .before .before .before .before
 
 cast-session : tie.Need-cast-session
 cast-session c =
-    let read = after-clause-start2-of-after-enum-told2 c in
+    let read = clause-start2-before-enum-told2 c in
     omega (arith, limited read .clauses, start read .pre .1)
 
 add-session : tie.Need-add-session
 add-session c =
-    let read = after-clause-start2-of-after-enum-told2 c in
+    let read = clause-start2-before-enum-told2 c in
     omega (arith, limited read .clauses, start read .pre .1)
 
 slice-write-session : tie.Need-slice-write-session
 slice-write-session c =
-    let after-clause-start2 = after-clause-start2-of-after-enum-told2 c in
+    let after-clause-start2 = clause-start2-before-enum-told2 c in
     omega (arith, start after-clause-start2 .pre .0 .encodes .long)
 
 enum-told-3 : tie.Need-enum-told-3
 enum-told-3 c = search needs
 
+abbrev clause-start2-before-enum-told3 : tie.After-enum-told3 → tie.After-clause-start2
+clause-start2-before-enum-told3 c = c .before .before .before .before .before .before
+
 -- an open literal
 open-at : (c : tie.After-enum-told3) →
-    let after-clause-start2 = c .before .before .before .before .before .before in
+    let after-clause-start2 = clause-start2-before-enum-told3 c in
     (at : Units (book after-clause-start2) (start after-clause-start2 .args .session .now) (start after-clause-start2 .args .c))
     → ValueSays (at .run .trail) (getD (clause after-clause-start2) 0 0) t.Open
 open-at c at =
-    let after-clause-start2 = c .before .before .before .before .before .before in
+    let after-clause-start2 = clause-start2-before-enum-told3 c in
     subst (ValueSays (at .run .trail) (getD (clause after-clause-start2) 0 0)) (c .enum-told3 .given .1) (value-at (c .before .before) at)
 
 assign-requires : tie.Need-assign-requires

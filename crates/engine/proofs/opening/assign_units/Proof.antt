@@ -26,23 +26,23 @@ loop-holds c =
     let entry = c .before .before .before in
     (omega arith, units-begin (entry .args .book .now) (entry .args .session .now) (entry .pre .0) (entry .pre .1))
 
-abbrev entry-of-at-loop : tie.At-loop Inv-loop μ-loop → tie.Start Inv-loop μ-loop
-entry-of-at-loop c = c .before .before .before .before
+abbrev entry-before-loop : tie.At-loop Inv-loop μ-loop → tie.Start Inv-loop μ-loop
+entry-before-loop c = c .before .before .before .before
 
 assign-unit-requires : tie.Need-assign-unit-requires Inv-loop μ-loop
 assign-unit-requires c κs =
     let at-loop = c .before .before in
-    let entry = entry-of-at-loop at-loop in
+    let entry = entry-before-loop at-loop in
     (units-at (entry .args .book .now) (entry .args .session .now) (entry .pre .0) (at-loop .loop .c) (at-loop .loop .inv .1), omega (arith, at-loop .before .clauses .ensures))
 
 -- the clause is done
 done : (c : tie.After-assign-unit Inv-loop μ-loop) →
     let at-loop = c .before .before .before in
-    let entry = entry-of-at-loop at-loop in
+    let entry = entry-before-loop at-loop in
     UnitDone (entry .args .book .now) (at-loop .loop .session) (c .assign-unit .last .1 .0) (at-loop .loop .c) (at-loop .loop .inv .1 .run) (c .assign-unit .result)
 done c =
     let at-loop = c .before .before .before in
-    let entry = entry-of-at-loop at-loop in
+    let entry = entry-before-loop at-loop in
     c .assign-unit .ensures (units-at (entry .args .book .now) (entry .args .session .now) (entry .pre .0) (at-loop .loop .c) (at-loop .loop .inv .1))
 
 conflict : (c : tie.Then1 Inv-loop μ-loop) →
@@ -51,7 +51,7 @@ conflict : (c : tie.Then1 Inv-loop μ-loop) →
 conflict c =
     let after-assign-unit = c .before .before .before in
     let at-loop = after-assign-unit .before .before .before in
-    let entry = entry-of-at-loop at-loop in
+    let entry = entry-before-loop at-loop in
     units-conflict (entry .args .book .now) (entry .args .session .now) (entry .pre .0) (at-loop .loop .c) (omega (arith, at-loop .before .clauses .ensures)) (at-loop .loop .inv .1)
     (subst (UnitDone (entry .args .book .now) (at-loop .loop .session) (after-assign-unit .assign-unit .last .1 .0) (at-loop .loop .c) (at-loop .loop .inv .1 .run)) (c .if1 .taken) (done after-assign-unit))
 
@@ -75,7 +75,7 @@ loop-again : tie.Need-loop-again Inv-loop μ-loop
 loop-again c =
     let after-assign-unit = c .before .before .before in
     let at-loop = after-assign-unit .before .before .before in
-    let entry = entry-of-at-loop at-loop in
+    let entry = entry-before-loop at-loop in
     (omega arith, units-next (entry .args .book .now) (entry .args .session .now) (entry .pre .0) (at-loop .loop .c) (omega (arith, at-loop .before .clauses .ensures)) (at-loop .loop .inv .1) (subst (UnitDone (entry .args .book .now) (at-loop .loop .session) (after-assign-unit .assign-unit .last .1 .0) (at-loop .loop .c) (at-loop .loop .inv .1 .run)) (c .if1 .left) (done after-assign-unit)))
 
 same-length-2 : tie.Need-same-length-2 Inv-loop μ-loop

@@ -1,5 +1,5 @@
 -- `watch_clause` meets its contract: the second watch with the pointer, and two nodes at the front of lists. Assumes nothing.
-use Prim.Native.Nat.{ℕ, _+_, _*_, _-_, _≤_, _<_}
+use Prim.Native.Nat.{ℕ, _+_, _*_, _≤_, _<_}
 use mathlib.Core.List.{List}
 use mathlib.Core.Path.{_≡_, ap, _∙_}
 use native.Mathlib.Omega.{arith}
@@ -63,45 +63,45 @@ fits-at c = session-fits _ _ (variables-are c) (clauses-are c) (start c .pre .0)
 inside : (c : tie.After-clause-start2) → start c .args .c < clauses c
 inside c = omega (arith, clauses-are c, start c .pre .1)
 
-abbrev at-else1 : tie.Else1 → tie.After-clause-start2
-at-else1 c = c .before
+abbrev here-before-else1 : tie.Else1 → tie.After-clause-start2
+here-before-else1 c = c .before
 
 -- a clause of two literals or more
-two : (c : tie.Else1) → 2 ≤ length (clauseAt (book (at-else1 c)) (start (at-else1 c) .args .c))
+two : (c : tie.Else1) → 2 ≤ length (clauseAt (book (here-before-else1 c)) (start (here-before-else1 c) .args .c))
 two c = omega (arith, clause-at (c .before) .size-is, c .if1 .left)
 
 literal-at : (c : tie.Else1) →
     let after-clause-start = c .before .before in
     (i : ℕ) → i < 2
-    → (2 ≤ getD (book (at-else1 c)) (after-clause-start .clause-start .result + i) 0)
-    × (getD (book (at-else1 c)) (after-clause-start .clause-start .result + i) 0 ≤ 2 * variables (at-else1 c) + 1)
+    → (2 ≤ getD (book (here-before-else1 c)) (after-clause-start .clause-start .result + i) 0)
+    × (getD (book (here-before-else1 c)) (after-clause-start .clause-start .result + i) 0 ≤ 2 * variables (here-before-else1 c) + 1)
 literal-at c i h =
-    let few : i < length (clauseAt (book (at-else1 c)) (start (at-else1 c) .args .c)) = omega (arith, two c) in
+    let few : i < length (clauseAt (book (here-before-else1 c)) (start (here-before-else1 c) .args .c)) = omega (arith, two c) in
     let bounds = clause-at (c .before) .bounds i few in
     let is = clause-at (c .before) .literal i few in
-    (omega (arith, is, bounds .0), omega (arith, is, bounds .1, variables-are (at-else1 c)))
+    (omega (arith, is, bounds .0), omega (arith, is, bounds .1, variables-are (here-before-else1 c)))
 
 first-at : (c : tie.Else1) →
     let after-clause-start = c .before .before in
-    (2 ≤ getD (book (at-else1 c)) (after-clause-start .clause-start .result) 0)
-    × (getD (book (at-else1 c)) (after-clause-start .clause-start .result) 0 ≤ 2 * variables (at-else1 c) + 1)
+    (2 ≤ getD (book (here-before-else1 c)) (after-clause-start .clause-start .result) 0)
+    × (getD (book (here-before-else1 c)) (after-clause-start .clause-start .result) 0 ≤ 2 * variables (here-before-else1 c) + 1)
 first-at c =
-    let few : 0 < length (clauseAt (book (at-else1 c)) (start (at-else1 c) .args .c)) = omega (arith, two c) in
+    let few : 0 < length (clauseAt (book (here-before-else1 c)) (start (here-before-else1 c) .args .c)) = omega (arith, two c) in
     let bounds = clause-at (c .before) .bounds 0 few in
     let is = clause-at (c .before) .first few in
-    (omega (arith, is, bounds .0), omega (arith, is, bounds .1, variables-are (at-else1 c)))
+    (omega (arith, is, bounds .0), omega (arith, is, bounds .1, variables-are (here-before-else1 c)))
 
-abbrev at-set-watch : tie.After-set-watch → tie.After-clause-start2
-at-set-watch c = c .before .before .before
+abbrev here-before-set-watch : tie.After-set-watch → tie.After-clause-start2
+here-before-set-watch c = c .before .before .before
 
 -- the numbers are as many as before
-stored-length : (c : tie.After-set-watch) → length (c .set-watch .last .0) ≡ length (session (at-set-watch c))
+stored-length : (c : tie.After-set-watch) → length (c .set-watch .last .0) ≡ length (session (here-before-set-watch c))
 stored-length c = ap length (c .set-watch .ensures) ∙ simp length-set
 
-abbrev at-push-front : tie.After-push-front → tie.After-clause-start2
-at-push-front c = c .before .before .before .before .before .before .before .before
+abbrev here-before-push-front : tie.After-push-front → tie.After-clause-start2
+here-before-push-front c = c .before .before .before .before .before .before .before .before
 
-pushed-length : (c : tie.After-push-front) → length (c .push-front .last .0) ≡ length (session (at-push-front c))
+pushed-length : (c : tie.After-push-front) → length (c .push-front .last .0) ≡ length (session (here-before-push-front c))
 pushed-length c =
     let after-set-watch = c .before .before .before .before .before in
     c .push-front .ensures .only .same-length ∙ stored-length after-set-watch
@@ -152,7 +152,7 @@ add-push-front c =
 push-front-requires : tie.Need-push-front-requires
 push-front-requires c κs =
     let after-set-watch = c .before .before .before .before in
-    let here = at-set-watch after-set-watch in
+    let here = here-before-set-watch after-set-watch in
     let i = inside here in
     let l = first-at (after-set-watch .before .before) in
     (fits-kept (stored-length after-set-watch) (fits-at here), l .0, l .1, omega arith, omega arith)
@@ -191,7 +191,7 @@ returns-2 : tie.Need-returns-2
 returns-2 c =
     let after-push-front = c .before .before .before .before .before .before .before in
     let after-set-watch = after-push-front .before .before .before .before .before in
-    let here = at-set-watch after-set-watch in
+    let here = here-before-set-watch after-set-watch in
     let s = start here in
     let read = clause-at here in
     let big = two (after-set-watch .before .before) in

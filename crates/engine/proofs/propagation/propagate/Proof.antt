@@ -132,16 +132,16 @@ loop-holds c =
     reading-on-begins (book here) (variables here) (clauses here) (c .before .opposite .result) (c .first .result)
     (variables-are here) (clauses-are here) (c .before .opposite .ensures) (c .first .ensures)
 
-abbrev at-then3 : tie.Then3 Inv-loop μ-loop Inv-propagating μ-propagating → tie.Then2 Inv-loop μ-loop Inv-propagating μ-propagating
-at-then3 c = c .before .before .before .before .before .before
+abbrev then2-before-then3 : tie.Then3 Inv-loop μ-loop Inv-propagating μ-propagating → tie.Then2 Inv-loop μ-loop Inv-propagating μ-propagating
+then2-before-then3 c = c .before .before .before .before .before .before
 
 -- the clause that is next
 reading-at : (c : tie.Then3 Inv-loop μ-loop Inv-propagating μ-propagating) →
     let at-loop = c .before .before in
-    (next : Next (book (at-then3 c)) (numbers (at-then3 c)) (place (at-then3 c)))
+    (next : Next (book (then2-before-then3 c)) (numbers (then2-before-then3 c)) (place (then2-before-then3 c)))
     → (d : ℕ) × (unread : List ℕ)
-    × ReadingOn (book (at-then3 c)) (numbers (at-then3 c)) (at-loop .loop .session) (place (at-then3 c)) (at-loop .loop .walk) (next .run) (d ∷ unread)
-reading-at c next = reading-on-more (book (at-then3 c)) (c .before .before .loop .inv next) (c .if3 .taken)
+    × ReadingOn (book (then2-before-then3 c)) (numbers (then2-before-then3 c)) (at-loop .loop .session) (place (then2-before-then3 c)) (at-loop .loop .walk) (next .run) (d ∷ unread)
+reading-at c next = reading-on-more (book (then2-before-then3 c)) (c .before .before .loop .inv next) (c .if3 .taken)
 
 visit-clause-requires :
     tie.Need-visit-clause-requires Inv-loop μ-loop Inv-propagating μ-propagating
@@ -153,36 +153,39 @@ visit-clause-requires c κs =
 enum-known-next : tie.Need-enum-known-next Inv-loop μ-loop Inv-propagating μ-propagating
 enum-known-next c = search needs
 
-abbrev at-visit-clause : tie.After-visit-clause Inv-loop μ-loop Inv-propagating μ-propagating → tie.Then2 Inv-loop μ-loop Inv-propagating μ-propagating
-at-visit-clause c = c .before .before .before .before .before .before .before .before
+abbrev then2-before-visit-clause : tie.After-visit-clause Inv-loop μ-loop Inv-propagating μ-propagating → tie.Then2 Inv-loop μ-loop Inv-propagating μ-propagating
+then2-before-visit-clause c = c .before .before .before .before .before .before .before .before
 
 -- it was visited
 visited-at : (c : tie.After-visit-clause Inv-loop μ-loop Inv-propagating μ-propagating) →
     let then3 = c .before .before in
-    (next : Next (book (at-visit-clause c)) (numbers (at-visit-clause c)) (place (at-visit-clause c)))
-    → Visited (book (at-visit-clause c)) (then3 .before .before .loop .session) (c .visit-clause .last .1 .0)
-    (visiting (book (at-visit-clause c)) (reading-at then3 next .0) (reading-at then3 next .1) (start (at-visit-clause c) .pre .well) (reading-at then3 next .2)) (c .visit-clause .result)
+    (next : Next (book (then2-before-visit-clause c)) (numbers (then2-before-visit-clause c)) (place (then2-before-visit-clause c)))
+    → Visited (book (then2-before-visit-clause c)) (then3 .before .before .loop .session) (c .visit-clause .last .1 .0)
+    (visiting (book (then2-before-visit-clause c)) (reading-at then3 next .0) (reading-at then3 next .1) (start (then2-before-visit-clause c) .pre .well) (reading-at then3 next .2)) (c .visit-clause .result)
 visited-at c next =
     let then3 = c .before .before in
-    c .visit-clause .ensures (visiting (book (at-visit-clause c)) (reading-at then3 next .0) (reading-at then3 next .1) (start (at-visit-clause c) .pre .well) (reading-at then3 next .2))
+    c .visit-clause .ensures (visiting (book (then2-before-visit-clause c)) (reading-at then3 next .0) (reading-at then3 next .1) (start (then2-before-visit-clause c) .pre .well) (reading-at then3 next .2))
 
-abbrev at-next : tie.After-next Inv-loop μ-loop Inv-propagating μ-propagating → tie.Then2 Inv-loop μ-loop Inv-propagating μ-propagating
-at-next c = c .before .before .before .before .before .before .before .before .before .before .before .before
+abbrev then2-before-next : tie.After-next Inv-loop μ-loop Inv-propagating μ-propagating → tie.Then2 Inv-loop μ-loop Inv-propagating μ-propagating
+then2-before-next c = c .before .before .before .before .before .before .before .before .before .before .before .before
+
+abbrev visit-clause-before-next : tie.After-next Inv-loop μ-loop Inv-propagating μ-propagating → tie.After-visit-clause Inv-loop μ-loop Inv-propagating μ-propagating
+visit-clause-before-next c = c .before .before .before .before
 
 read-on : (c : tie.After-next Inv-loop μ-loop Inv-propagating μ-propagating) →
-    let after-visit-clause = c .before .before .before .before in
-    (next : Next (book (at-next c)) (numbers (at-next c)) (place (at-next c)))
-    → ReadingOn (book (at-next c)) (numbers (at-next c)) (after-visit-clause .visit-clause .last .1 .0) (place (at-next c)) (c .next .given .0 .0) (next .run) (reading-at (after-visit-clause .before .before) next .1)
+    let after-visit-clause = visit-clause-before-next c in
+    (next : Next (book (then2-before-next c)) (numbers (then2-before-next c)) (place (then2-before-next c)))
+    → ReadingOn (book (then2-before-next c)) (numbers (then2-before-next c)) (after-visit-clause .visit-clause .last .1 .0) (place (then2-before-next c)) (c .next .given .0 .0) (next .run) (reading-at (after-visit-clause .before .before) next .1)
 read-on c next =
-    let after-visit-clause = c .before .before .before .before in
+    let after-visit-clause = visit-clause-before-next c in
     let p = reading-at (after-visit-clause .before .before) next in
-    reading-on-next (book (at-next c)) (p .0) (p .1) (start (at-next c) .pre .well) (p .2) (after-visit-clause .visit-clause .result) (visited-at after-visit-clause next)
+    reading-on-next (book (then2-before-next c)) (p .0) (p .1) (start (then2-before-next c) .pre .well) (p .2) (after-visit-clause .visit-clause .result) (visited-at after-visit-clause next)
     (c .next .given .0 .0) (c .next .given .1)
 
 loop-less : tie.Need-loop-less Inv-loop μ-loop Inv-propagating μ-propagating
 loop-less c =
     let then3 = c .before .before .before .before .before .before .before in
-    let here = at-then3 then3 in
+    let here = then2-before-then3 then3 in
     let next = next-at here in
     let p = reading-at then3 next in
     let now = reading-on-left (book here) (p .0 ∷ p .1) (variables here) (clauses here) (start here .pre .well) (variables-are here) (clauses-are here) (p .2) in
@@ -197,22 +200,22 @@ loop-again c =
 enum-told : tie.Need-enum-told Inv-loop μ-loop Inv-propagating μ-propagating
 enum-told c = search needs
 
-abbrev then2-of-else3 : tie.Else3 Inv-loop μ-loop Inv-propagating μ-propagating → tie.Then2 Inv-loop μ-loop Inv-propagating μ-propagating
-then2-of-else3 c = c .before .before .before .before .before .before
+abbrev then2-before-else3 : tie.Else3 Inv-loop μ-loop Inv-propagating μ-propagating → tie.Then2 Inv-loop μ-loop Inv-propagating μ-propagating
+then2-before-else3 c = c .before .before .before .before .before .before
 
 add-at : tie.Need-add-at Inv-loop μ-loop Inv-propagating μ-propagating
 add-at c =
-    let here = then2-of-else3 c in
+    let here = then2-before-else3 c in
     omega (arith, next-below _ (next-at here), limited here .variables)
 
 propagating-less : tie.Need-propagating-less Inv-loop μ-loop Inv-propagating μ-propagating
 propagating-less c =
-    let here = then2-of-else3 c in
+    let here = then2-before-else3 c in
     omega (arith, next-below _ (next-at here), variables-are here)
 
 propagating-again : tie.Need-propagating-again Inv-loop μ-loop Inv-propagating μ-propagating
 propagating-again c =
-    let here = then2-of-else3 c in
+    let here = then2-before-else3 c in
     λ begun.
     let s = here .before .before .before .propagating .inv begun in
     let next = propagating-next (book here) (start here .pre .well) s (more-at here) in
@@ -229,26 +232,29 @@ returns-2 c =
     let entry = c .before .before .before .before .before .before .before .before .before .before in
     λ at. propagating-ends (entry .args .book .now) (c .before .before .before .propagating .inv at) (omega (arith, c .if2 .left, c .before .wide .ensures))
 
-abbrev at-enum-told : tie.After-enum-told Inv-loop μ-loop Inv-propagating μ-propagating → tie.Then2 Inv-loop μ-loop Inv-propagating μ-propagating
-at-enum-told c = c .before .before .before .before .before .before .before .before .before .before .before .before
+abbrev then2-before-enum-told : tie.After-enum-told Inv-loop μ-loop Inv-propagating μ-propagating → tie.Then2 Inv-loop μ-loop Inv-propagating μ-propagating
+then2-before-enum-told c = c .before .before .before .before .before .before .before .before .before .before .before .before
+
+abbrev visit-clause-before-enum-told : tie.After-enum-told Inv-loop μ-loop Inv-propagating μ-propagating → tie.After-visit-clause Inv-loop μ-loop Inv-propagating μ-propagating
+visit-clause-before-enum-told c = c .before .before .before .before
 
 -- a conflict
 ended-at : (c : tie.After-enum-told Inv-loop μ-loop Inv-propagating μ-propagating) →
-    let after-visit-clause = c .before .before .before .before in
-    (begun : Propagating (book (at-enum-told c)) (session (at-enum-told c)) (start (at-enum-told c) .args .handled))
-    → Becomes (book (at-enum-told c)) (session (at-enum-told c)) (after-visit-clause .visit-clause .last .1 .0) (propagate (formulaOf (book (at-enum-told c))) (start (at-enum-told c) .args .handled) (begun .run))
+    let after-visit-clause = visit-clause-before-enum-told c in
+    (begun : Propagating (book (then2-before-enum-told c)) (session (then2-before-enum-told c)) (start (then2-before-enum-told c) .args .handled))
+    → Becomes (book (then2-before-enum-told c)) (session (then2-before-enum-told c)) (after-visit-clause .visit-clause .last .1 .0) (propagate (formulaOf (book (then2-before-enum-told c))) (start (then2-before-enum-told c) .args .handled) (begun .run))
 ended-at c begun =
-    let after-visit-clause = c .before .before .before .before in
+    let after-visit-clause = visit-clause-before-enum-told c in
     let at-propagating = after-visit-clause .before .before .before .before .before .before .before .before .before .before .before in
     let s = at-propagating .propagating .inv begun in
-    let next = propagating-next (book (at-enum-told c)) (start (at-enum-told c) .pre .well) s (more-at (at-enum-told c)) in
+    let next = propagating-next (book (then2-before-enum-told c)) (start (then2-before-enum-told c) .pre .well) s (more-at (then2-before-enum-told c)) in
     let p = reading-at (after-visit-clause .before .before) next in
-    let e = reading-on-conflict (book (at-enum-told c)) (p .0) (p .1) (start (at-enum-told c) .pre .well) (p .2) (after-visit-clause .visit-clause .result) (visited-at after-visit-clause next) (c .enum-told .given .1) in
-    propagating-conflict (book (at-enum-told c)) (start (at-enum-told c) .pre .well) s (more-at (at-enum-told c)) (e .0) (e .1)
+    let e = reading-on-conflict (book (then2-before-enum-told c)) (p .0) (p .1) (start (then2-before-enum-told c) .pre .well) (p .2) (after-visit-clause .visit-clause .result) (visited-at after-visit-clause next) (c .enum-told .given .1) in
+    propagating-conflict (book (then2-before-enum-told c)) (start (then2-before-enum-told c) .pre .well) s (more-at (then2-before-enum-told c)) (e .0) (e .1)
 
 same-length-2 : tie.Need-same-length-2 Inv-loop μ-loop Inv-propagating μ-propagating
 same-length-2 c =
-    let then2 = at-enum-told c in
+    let then2 = then2-before-enum-told c in
     ended-at c (start then2 .pre) .same-length
 
 returns-3 : tie.Need-returns-3 Inv-loop μ-loop Inv-propagating μ-propagating

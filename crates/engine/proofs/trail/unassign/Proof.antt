@@ -60,12 +60,15 @@ slice-write-session-4 c = simp length-set (omega arith)
 abbrev start : (c : tie.After-levels-at) → tie.Start
 start c = c .before .before .before .before .before .before .before
 
+abbrev wide-before-levels-at : tie.After-levels-at → tie.After-wide
+wide-before-levels-at c = c .before .before .before .before
+
 last-literal : (c : tie.After-levels-at) →
-    let after-wide = c .before .before .before .before in
+    let after-wide = wide-before-levels-at c in
     getD (start c .args .session .now) (trailAt + after-wide .wide .result) 0
     ≡ getD (start c .args .session .now) (trailAt + (getD (start c .args .session .now) lengthAt 0 - 1)) 0
 last-literal c =
-    let after-wide = c .before .before .before .before in
+    let after-wide = wide-before-levels-at c in
     ap (λ (i : ℕ). getD (start c .args .session .now) (trailAt + i) 0) (after-wide .wide .ensures)
 
 value-slot-requires : tie.Need-value-slot-requires

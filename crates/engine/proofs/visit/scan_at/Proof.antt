@@ -60,33 +60,33 @@ ends c = scanned-ends (start c .pre) _ _ (c .before .clause-start .ensures) (c .
 clause-is : (c : tie.After-clause-start2) → part (c .before .clause-start .result) (c .clause-start2 .result) (book c) ≡ clauseOf (formulaOf (book c)) (start c .args .c)
 clause-is c = scanned-clause (start c .pre) _ _ (c .before .clause-start .ensures) (c .clause-start2 .ensures)
 
-abbrev at-watches-at : tie.After-watches-at → tie.After-clause-start2
-at-watches-at c = c .before .before
+abbrev here-before-watches-at : tie.After-watches-at → tie.After-clause-start2
+here-before-watches-at c = c .before .before
 
 values-are : (c : tie.After-watches-at)
-    → part (c .before .values-at .result) (c .watches-at .result) (session (at-watches-at c))
-    ≡ take (variablesOf (book (at-watches-at c))) (drop (valuesAt (variablesOf (book (at-watches-at c)))) (session (at-watches-at c)))
-values-are c = values-part _ (variables (at-watches-at c)) _ _ _ (variables-are (at-watches-at c)) (c .before .values-at .ensures) (c .watches-at .ensures)
+    → part (c .before .values-at .result) (c .watches-at .result) (session (here-before-watches-at c))
+    ≡ take (variablesOf (book (here-before-watches-at c))) (drop (valuesAt (variablesOf (book (here-before-watches-at c)))) (session (here-before-watches-at c)))
+values-are c = values-part _ (variables (here-before-watches-at c)) _ _ _ (variables-are (here-before-watches-at c)) (c .before .values-at .ensures) (c .watches-at .ensures)
 
-abbrev at-wide : tie.After-wide → tie.After-clause-start2
-at-wide c = c .before .before .before .before
+abbrev here-before-wide : tie.After-wide → tie.After-clause-start2
+here-before-wide c = c .before .before .before .before
 
-first-is : (c : tie.After-wide) → c .wide .result ≡ getD (session (at-wide c)) (watchesAt (variablesOf (book (at-wide c))) + 2 * start (at-wide c) .args .c) 0
-first-is c = c .wide .ensures ∙ ap (λ (x : ℕ). getD (session (at-wide c)) x 0) (omega (arith, c .before .before .watches-at .ensures, variables-are (at-wide c)))
+first-is : (c : tie.After-wide) → c .wide .result ≡ getD (session (here-before-wide c)) (watchesAt (variablesOf (book (here-before-wide c))) + 2 * start (here-before-wide c) .args .c) 0
+first-is c = c .wide .ensures ∙ ap (λ (x : ℕ). getD (session (here-before-wide c)) x 0) (omega (arith, c .before .before .watches-at .ensures, variables-are (here-before-wide c)))
 
-abbrev at-wide2 : tie.After-wide2 → tie.After-clause-start2
-at-wide2 c = c .before .before .before .before .before .before
+abbrev here-before-wide2 : tie.After-wide2 → tie.After-clause-start2
+here-before-wide2 c = c .before .before .before .before .before .before
 
-second-is : (c : tie.After-wide2) → c .wide2 .result ≡ getD (session (at-wide2 c)) (watchesAt (variablesOf (book (at-wide2 c))) + 2 * start (at-wide2 c) .args .c + 1) 0
+second-is : (c : tie.After-wide2) → c .wide2 .result ≡ getD (session (here-before-wide2 c)) (watchesAt (variablesOf (book (here-before-wide2 c))) + 2 * start (here-before-wide2 c) .args .c + 1) 0
 second-is c =
     let after-watches-at = c .before .before .before .before in
-    c .wide2 .ensures ∙ ap (λ (x : ℕ). getD (session (at-wide2 c)) x 0) (omega (arith, after-watches-at .watches-at .ensures, variables-are (at-wide2 c)))
+    c .wide2 .ensures ∙ ap (λ (x : ℕ). getD (session (here-before-wide2 c)) x 0) (omega (arith, after-watches-at .watches-at .ensures, variables-are (here-before-wide2 c)))
 
-abbrev at-wide3 : tie.After-wide3 → tie.After-clause-start2
-at-wide3 c = c .before .before .before .before .before .before .before .before .before
+abbrev here-before-wide3 : tie.After-wide3 → tie.After-clause-start2
+here-before-wide3 c = c .before .before .before .before .before .before .before .before .before
 
-pointer-is : (c : tie.After-wide3) → c .wide3 .result ≡ getD (session (at-wide3 c)) (pointersAt (variablesOf (book (at-wide3 c))) (clausesOf (book (at-wide3 c))) + start (at-wide3 c) .args .c) 0
-pointer-is c = c .wide3 .ensures ∙ ap (λ (x : ℕ). getD (session (at-wide3 c)) x 0) (omega (arith, c .before .before .pointers-at .ensures, variables-are (at-wide3 c), clauses-are (at-wide3 c)))
+pointer-is : (c : tie.After-wide3) → c .wide3 .result ≡ getD (session (here-before-wide3 c)) (pointersAt (variablesOf (book (here-before-wide3 c))) (clausesOf (book (here-before-wide3 c))) + start (here-before-wide3 c) .args .c) 0
+pointer-is c = c .wide3 .ensures ∙ ap (λ (x : ℕ). getD (session (here-before-wide3 c)) x 0) (omega (arith, c .before .before .pointers-at .ensures, variables-are (here-before-wide3 c), clauses-are (here-before-wide3 c)))
 
 values-at-requires : tie.Need-values-at-requires
 values-at-requires c κs = omega (arith, fits c, variables-are c)
@@ -113,22 +113,22 @@ wide-requires c κs = search needs
 
 mul-wide-3 : tie.Need-mul-wide-3
 mul-wide-3 c =
-    let here = at-wide c in
+    let here = here-before-wide c in
     let f = fits here in omega arith
 
 add-wide-2 : tie.Need-add-wide-2
 add-wide-2 c =
-    let here = at-wide c in
+    let here = here-before-wide c in
     let f = fits here in omega arith
 
 add-wide-3 : tie.Need-add-wide-3
 add-wide-3 c =
-    let here = at-wide c in
+    let here = here-before-wide c in
     let f = fits here in omega arith
 
 mul-wide-4 : tie.Need-mul-wide-4
 mul-wide-4 c =
-    let here = at-wide c in
+    let here = here-before-wide c in
     let f = fits here in omega arith
 
 shared-slice-read-wide-2 : tie.Need-shared-slice-read-wide-2
@@ -141,7 +141,7 @@ wide-requires-2 c κs = search needs
 
 pointers-at-requires : tie.Need-pointers-at-requires
 pointers-at-requires c κs =
-    let here = at-wide2 c in
+    let here = here-before-wide2 c in
     let f = fits here in (omega arith, omega arith)
 
 add-wide-4 : tie.Need-add-wide-4
@@ -164,22 +164,22 @@ wide-requires-3 c κs = search needs
 
 mul-scan-clause : tie.Need-mul-scan-clause
 mul-scan-clause c =
-    let here = at-wide3 c in
+    let here = here-before-wide3 c in
     let e = ends here in omega arith
 
 sub-scan-clause : tie.Need-sub-scan-clause
 sub-scan-clause c =
-    let here = at-wide3 c in
+    let here = here-before-wide3 c in
     ends here .0
 
 part-scan-clause-start : tie.Need-part-scan-clause-start
 part-scan-clause-start c =
-    let here = at-wide3 c in
+    let here = here-before-wide3 c in
     let e = ends here in omega arith
 
 part-scan-clause-end : tie.Need-part-scan-clause-end
 part-scan-clause-end c =
-    let here = at-wide3 c in
+    let here = here-before-wide3 c in
     let e = ends here in omega arith
 
 mul-scan-clause-2 : tie.Need-mul-scan-clause-2
@@ -206,7 +206,7 @@ returns c =
     let after-wide3 = c .before .before .before in
     let after-wide2 = after-wide3 .before .before .before in
     let after-wide = after-wide2 .before .before in
-    let here = at-wide after-wide in
+    let here = here-before-wide after-wide in
     λ s. scanned-is s _ _ _ (after-wide .wide .result) (after-wide2 .wide2 .result) (after-wide3 .wide3 .result) (clause-is here) (values-are (after-wide .before .before))
     (first-is after-wide) (second-is after-wide2) (pointer-is after-wide3) (c .scan-clause .ensures)
 

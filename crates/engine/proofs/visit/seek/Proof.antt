@@ -1,5 +1,5 @@
 -- `seek` meets its contract: what the scan answers says what becomes of the clause. Assumes nothing.
-use Prim.Native.Nat.{ℕ, _+_, _*_, _-_, _≤_, _<_}
+use Prim.Native.Nat.{ℕ, _+_, _*_, _≤_, _<_}
 use mathlib.Core.Path.{_≡_, ap, _∙_}
 use native.Mathlib.Omega.{arith}
 use mathlib.Core.List.{List}
@@ -71,89 +71,89 @@ fits-at c = spot-fits (start c .pre .at) _ _ (variables-are c) (clauses-are c)
 standing-at : (c : tie.After-clause-of-node) → Standing (variables c) (clauses c) (walk c)
 standing-at c = spot-standing (start c .pre .at) _ _ (variables-are c) (clauses-are c)
 
-abbrev at-checks-at : tie.After-checks-at → tie.After-clause-of-node
-at-checks-at c = c .before
+abbrev here-before-checks-at : tie.After-checks-at → tie.After-clause-of-node
+here-before-checks-at c = c .before
 
 count-is : (c : tie.After-checks-at)
-    → c .checks-at .result + (at-checks-at c) .clause-of-node .result
-    ≡ checksAt (variables (at-checks-at c)) (clauses (at-checks-at c)) + clauseOfNode (walk (at-checks-at c) .node)
-count-is c = omega (arith, c .checks-at .ensures, at-checks-at c .clause-of-node .ensures)
+    → c .checks-at .result + (here-before-checks-at c) .clause-of-node .result
+    ≡ checksAt (variables (here-before-checks-at c)) (clauses (here-before-checks-at c)) + clauseOfNode (walk (here-before-checks-at c) .node)
+count-is c = omega (arith, c .checks-at .ensures, here-before-checks-at c .clause-of-node .ensures)
 
-abbrev at-position : tie.After-position → tie.After-clause-of-node
-at-position c = c .before .before .before .before .before
+abbrev here-before-position : tie.After-position → tie.After-clause-of-node
+here-before-position c = c .before .before .before .before .before
 
 -- what the scan answers
-scanned : (c : tie.After-position) (seeking : Sought (at-position c))
+scanned : (c : tie.After-position) (seeking : Sought (here-before-position c))
     → scannedIn (Found (c .position .given .0 .0) (c .position .given .0 .1 .0))
-    ≡ scan (seeking .at .run .trail) (clauseOf (formulaOf (book (at-position c))) (seeking .at .clause)) (cellOf (seeking .at .run) (seeking .at .clause))
-scanned c seeking = seeking-scanned seeking _ _ _ (c .position .given .1) (at-position c .clause-of-node .ensures) (c .before .before .scan-at .ensures)
+    ≡ scan (seeking .at .run .trail) (clauseOf (formulaOf (book (here-before-position c))) (seeking .at .clause)) (cellOf (seeking .at .run) (seeking .at .clause))
+scanned c seeking = seeking-scanned seeking _ _ _ (c .position .given .1) (here-before-position c .clause-of-node .ensures) (c .before .before .scan-at .ensures)
 
-abbrev at-made : tie.After-made → tie.After-clause-of-node
-at-made c = c .before .before .before .before .before
+abbrev here-before-made : tie.After-made → tie.After-clause-of-node
+here-before-made c = c .before .before .before .before .before
 
-missed : (c : tie.After-made) (seeking : Sought (at-made c))
+missed : (c : tie.After-made) (seeking : Sought (here-before-made c))
     → scannedIn (Nothing (c .made .given .0 .0))
-    ≡ scan (seeking .at .run .trail) (clauseOf (formulaOf (book (at-made c))) (seeking .at .clause)) (cellOf (seeking .at .run) (seeking .at .clause))
-missed c seeking = seeking-scanned seeking _ _ _ (c .made .given .1) (at-made c .clause-of-node .ensures) (c .before .before .scan-at .ensures)
+    ≡ scan (seeking .at .run .trail) (clauseOf (formulaOf (book (here-before-made c))) (seeking .at .clause)) (cellOf (seeking .at .run) (seeking .at .clause))
+missed c seeking = seeking-scanned seeking _ _ _ (c .made .given .1) (here-before-made c .clause-of-node .ensures) (c .before .before .scan-at .ensures)
 
-abbrev at-clause-start : tie.After-clause-start → tie.After-clause-of-node
-at-clause-start c = c .before .before .before .before .before .before .before
+abbrev here-before-clause-start : tie.After-clause-start → tie.After-clause-of-node
+here-before-clause-start c = c .before .before .before .before .before .before .before
 
 -- the literal at the position found
-start-is : (c : tie.After-clause-start) → c .clause-start .result ≡ clauseStart (book (at-clause-start c)) (clauseOfNode (walk (at-clause-start c) .node))
-start-is c = c .clause-start .ensures ∙ ap (clauseStart (book (at-clause-start c))) (at-clause-start c .clause-of-node .ensures)
+start-is : (c : tie.After-clause-start) → c .clause-start .result ≡ clauseStart (book (here-before-clause-start c)) (clauseOfNode (walk (here-before-clause-start c) .node))
+start-is c = c .clause-start .ensures ∙ ap (clauseStart (book (here-before-clause-start c))) (here-before-clause-start c .clause-of-node .ensures)
 
 found : (c : tie.After-clause-start) →
     let after-position = c .before .before in
-    (seeking : Sought (at-clause-start c))
+    (seeking : Sought (here-before-clause-start c))
     → (after-position .position .given .0 .0 < maxClause)
-    × (c .clause-start .result + after-position .position .given .0 .0 < length (book (at-clause-start c)))
-    × (getD (book (at-clause-start c)) (c .clause-start .result + after-position .position .given .0 .0) 0
-    ≡ getD (clauseOf (formulaOf (book (at-clause-start c))) (seeking .at .clause)) (after-position .position .given .0 .0) 0)
+    × (c .clause-start .result + after-position .position .given .0 .0 < length (book (here-before-clause-start c)))
+    × (getD (book (here-before-clause-start c)) (c .clause-start .result + after-position .position .given .0 .0) 0
+    ≡ getD (clauseOf (formulaOf (book (here-before-clause-start c))) (seeking .at .clause)) (after-position .position .given .0 .0) 0)
 found c seeking = found-literal seeking _ _ (scanned (c .before .before) seeking) _ (start-is c)
 
 to-bounds : (c : tie.After-clause-start) →
     let after-position = c .before .before in
-    (2 ≤ getD (book (at-clause-start c)) (c .clause-start .result + after-position .position .given .0 .0) 0)
-    × (getD (book (at-clause-start c)) (c .clause-start .result + after-position .position .given .0 .0) 0 ≤ 2 * variables (at-clause-start c) + 1)
+    (2 ≤ getD (book (here-before-clause-start c)) (c .clause-start .result + after-position .position .given .0 .0) 0)
+    × (getD (book (here-before-clause-start c)) (c .clause-start .result + after-position .position .given .0 .0) 0 ≤ 2 * variables (here-before-clause-start c) + 1)
 to-bounds c =
-    let pre = start (at-clause-start c) .pre in
+    let pre = start (here-before-clause-start c) .pre in
     let b = found-bounds pre _ _ (scanned (c .before .before) pre) in
-    (rw (found c pre .2) (b .0), rw (found c pre .2) (omega (arith, b .1, variables-are (at-clause-start c))))
+    (rw (found c pre .2) (b .0), rw (found c pre .2) (omega (arith, b .1, variables-are (here-before-clause-start c))))
 
-abbrev at-take-out : tie.After-take-out → tie.After-clause-of-node
-at-take-out c = c .before .before .before .before .before .before .before .before .before .before
+abbrev here-before-take-out : tie.After-take-out → tie.After-clause-of-node
+here-before-take-out c = c .before .before .before .before .before .before .before .before .before .before
 
 -- the numbers are as many as before, store by store
-taken-length : (c : tie.After-take-out) → length (c .take-out .last .0) ≡ length (session (at-take-out c))
+taken-length : (c : tie.After-take-out) → length (c .take-out .last .0) ≡ length (session (here-before-take-out c))
 taken-length c = c .take-out .ensures .only .same-length
 
-abbrev at-set-watch : tie.After-set-watch → tie.After-clause-of-node
-at-set-watch c = c .before .before .before .before .before .before .before .before .before .before .before .before .before .before
+abbrev here-before-set-watch : tie.After-set-watch → tie.After-clause-of-node
+here-before-set-watch c = c .before .before .before .before .before .before .before .before .before .before .before .before .before .before
 
-stored-length : (c : tie.After-set-watch) → length (c .set-watch .last .0) ≡ length (session (at-set-watch c))
+stored-length : (c : tie.After-set-watch) → length (c .set-watch .last .0) ≡ length (session (here-before-set-watch c))
 stored-length c =
     let after-take-out = c .before .before .before .before in
     ap length (c .set-watch .ensures) ∙ simp length-set (taken-length after-take-out)
 
-abbrev at-push-front : tie.After-push-front → tie.After-clause-of-node
-at-push-front c = c .before .before .before .before .before .before .before .before .before .before .before .before .before .before .before .before .before .before
+abbrev here-before-push-front : tie.After-push-front → tie.After-clause-of-node
+here-before-push-front c = c .before .before .before .before .before .before .before .before .before .before .before .before .before .before .before .before .before .before
 
-pushed-length : (c : tie.After-push-front) → length (c .push-front .last .0) ≡ length (session (at-push-front c))
+pushed-length : (c : tie.After-push-front) → length (c .push-front .last .0) ≡ length (session (here-before-push-front c))
 pushed-length c =
     let after-set-watch = c .before .before .before .before in
     c .push-front .ensures .only .same-length ∙ stored-length after-set-watch
 
-abbrev at-add-checks2 : tie.After-add-checks2 → tie.After-clause-of-node
-at-add-checks2 c = c .before .before .before .before .before .before .before .before
+abbrev here-before-add-checks2 : tie.After-add-checks2 → tie.After-clause-of-node
+here-before-add-checks2 c = c .before .before .before .before .before .before .before .before
 
-counted-length : (c : tie.After-add-checks2) → length (c .add-checks2 .last .0) ≡ length (session (at-add-checks2 c))
+counted-length : (c : tie.After-add-checks2) → length (c .add-checks2 .last .0) ≡ length (session (here-before-add-checks2 c))
 counted-length c = ap length (c .add-checks2 .ensures) ∙ simp length-set
 
-abbrev at-assign : tie.After-assign → tie.After-clause-of-node
-at-assign c = c .before .before .before .before .before .before .before .before .before .before .before .before .before .before
+abbrev here-before-assign : tie.After-assign → tie.After-clause-of-node
+here-before-assign c = c .before .before .before .before .before .before .before .before .before .before .before .before .before .before
 
-assigned-length : (c : tie.After-assign) → length (c .assign .last .0) ≡ length (session (at-assign c))
+assigned-length : (c : tie.After-assign) → length (c .assign .last .0) ≡ length (session (here-before-assign c))
 assigned-length c =
     let after-add-checks2 = c .before .before .before .before .before .before in
     ap length (c .assign .ensures) ∙ simp length-set (counted-length after-add-checks2)
@@ -179,12 +179,12 @@ clause-start-requires c κs =
 
 add-to : tie.Need-add-to
 add-to c =
-    let here = at-clause-start c in
+    let here = here-before-clause-start c in
     let f = found c (start here .pre) in omega arith
 
 mul-to : tie.Need-mul-to
 mul-to c =
-    let here = at-clause-start c in
+    let here = here-before-clause-start c in
     let f = found c (start here .pre) in omega arith
 
 shared-slice-read-to : tie.Need-shared-slice-read-to
@@ -200,7 +200,7 @@ take-out-requires c κs =
 cast-set-watch : tie.Need-cast-set-watch
 cast-set-watch c =
     let after-clause-start = c .before .before .before .before .before .before in
-    let here = at-clause-start after-clause-start in
+    let here = here-before-clause-start after-clause-start in
     let f = found after-clause-start (start here .pre) in omega arith
 
 set-watch-requires : tie.Need-set-watch-requires
@@ -211,7 +211,7 @@ set-watch-requires c κs =
 push-front-requires : tie.Need-push-front-requires
 push-front-requires c κs =
     let after-clause-start = c .before .before .before .before .before .before .before .before .before .before in
-    let here = at-clause-start after-clause-start in
+    let here = here-before-clause-start after-clause-start in
     let s = standing-at here in
     let b = to-bounds after-clause-start in
     (fits-kept (stored-length (c .before .before .before)) (fits-at here), b .0, b .1, s .some, s .node-within)
@@ -249,13 +249,13 @@ slice-write-session c = search needs
 same-length : tie.Need-same-length
 same-length c = search needs
 
-abbrev after-checks-at-of-after-made : tie.After-made → tie.After-checks-at
-after-checks-at-of-after-made c = c .before .before .before .before
+abbrev checks-at-before-made : tie.After-made → tie.After-checks-at
+checks-at-before-made c = c .before .before .before .before
 
 returns : tie.Need-returns
 returns c =
     let after-made = c .before .before .before .before .before .before in
-    let after-checks-at = after-checks-at-of-after-made after-made in
+    let after-checks-at = checks-at-before-made after-made in
     let here = after-checks-at .before in
     λ seeking. visited-conflict seeking _ (missed after-made seeking) (c .if1 .taken)
     (variables here) (clauses here) _ _ _ (variables-are here) (clauses-are here)
@@ -269,7 +269,7 @@ assign-requires : tie.Need-assign-requires
 assign-requires c κs =
     let after-add-checks2 = c .before .before .before .before .before in
     let after-made = after-add-checks2 .before .before .before in
-    let after-checks-at = after-checks-at-of-after-made after-made in
+    let after-checks-at = checks-at-before-made after-made in
     let here = after-checks-at .before in
     let f = fits-at here in
     let asks = implied-asks (start here .pre) _ (missed after-made (start here .pre)) (c .before .before .if1 .left) (variables here) (clauses here) _ (variables-are here) (clauses-are here) (count-is after-checks-at) in
@@ -308,7 +308,7 @@ returns-3 c =
     let else1 = after-assign .before .before .before in
     let after-add-checks2 = else1 .before .before .before in
     let after-made = after-add-checks2 .before .before .before in
-    let after-checks-at = after-checks-at-of-after-made after-made in
+    let after-checks-at = checks-at-before-made after-made in
     let here = after-checks-at .before in
     λ seeking. visited-implied seeking _ (missed after-made seeking) (else1 .if1 .left)
     (variables here) (clauses here) _ (getD (after-add-checks2 .add-checks2 .last .0) decisionsAt 0) _ (c .keep .result)

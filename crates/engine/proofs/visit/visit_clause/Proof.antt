@@ -63,37 +63,37 @@ fits-at c = spot-fits (start c .pre) _ _ (variables-are c) (clauses-are c)
 standing-at : (c : tie.After-clause-of-node) → Standing (variables c) (clauses c) (walk c)
 standing-at c = spot-standing (start c .pre) _ _ (variables-are c) (clauses-are c)
 
-abbrev at-clause-start : tie.After-clause-start → tie.After-clause-of-node
-at-clause-start c = c .before
+abbrev here-before-clause-start : tie.After-clause-start → tie.After-clause-of-node
+here-before-clause-start c = c .before
 
 -- the literal of its other watch
-start-is : (c : tie.After-clause-start) → c .clause-start .result ≡ clauseStart (book (at-clause-start c)) (clauseOfNode (walk (at-clause-start c) .node))
-start-is c = c .clause-start .ensures ∙ ap (clauseStart (book (at-clause-start c))) (c .before .clause-of-node .ensures)
+start-is : (c : tie.After-clause-start) → c .clause-start .result ≡ clauseStart (book (here-before-clause-start c)) (clauseOfNode (walk (here-before-clause-start c) .node))
+start-is c = c .clause-start .ensures ∙ ap (clauseStart (book (here-before-clause-start c))) (c .before .clause-of-node .ensures)
 
-abbrev at-wide : tie.After-wide → tie.After-clause-of-node
-at-wide c = c .before .before .before .before .before
+abbrev here-before-wide : tie.After-wide → tie.After-clause-of-node
+here-before-wide c = c .before .before .before .before .before
 
-watch-is : (c : tie.After-wide) → c .wide .result ≡ getD (session (at-wide c)) (watchSlot (variablesOf (book (at-wide c))) (otherNode (walk (at-wide c) .node))) 0
+watch-is : (c : tie.After-wide) → c .wide .result ≡ getD (session (here-before-wide c)) (watchSlot (variablesOf (book (here-before-wide c))) (otherNode (walk (here-before-wide c) .node))) 0
 watch-is c =
     c .wide .ensures
-    ∙ ap (λ (x : ℕ). getD (session (at-wide c)) x 0)
-    (c .before .before .watch-slot .ensures ∙ ap₂ watchSlot (variables-are (at-wide c)) (c .before .before .before .other-node .ensures))
+    ∙ ap (λ (x : ℕ). getD (session (here-before-wide c)) x 0)
+    (c .before .before .watch-slot .ensures ∙ ap₂ watchSlot (variables-are (here-before-wide c)) (c .before .before .before .other-node .ensures))
 
-abbrev after-clause-start-of-after-wide : tie.After-wide → tie.After-clause-start
-after-clause-start-of-after-wide c = c .before .before .before .before
+abbrev clause-start-before-wide : tie.After-wide → tie.After-clause-start
+clause-start-before-wide c = c .before .before .before .before
 
 abbrev other : (c : tie.After-wide) → ℕ
 other c =
-    let after-clause-start = after-clause-start-of-after-wide c in
-    getD (book (at-wide c)) (after-clause-start .clause-start .result + c .wide .result) 0
+    let after-clause-start = clause-start-before-wide c in
+    getD (book (here-before-wide c)) (after-clause-start .clause-start .result + c .wide .result) 0
 
 other-at : (c : tie.After-wide) →
-    let after-clause-start = after-clause-start-of-after-wide c in
-    (at : Visiting (book (at-wide c)) (session (at-wide c)) (walk (at-wide c)))
-    → (after-clause-start .clause-start .result + c .wide .result < length (book (at-wide c)))
-    × (other c ≡ otherWatch (clauseOf (formulaOf (book (at-wide c))) (at .clause)) (cellOf (at .run) (at .clause)) (at .q))
+    let after-clause-start = clause-start-before-wide c in
+    (at : Visiting (book (here-before-wide c)) (session (here-before-wide c)) (walk (here-before-wide c)))
+    → (after-clause-start .clause-start .result + c .wide .result < length (book (here-before-wide c)))
+    × (other c ≡ otherWatch (clauseOf (formulaOf (book (here-before-wide c))) (at .clause)) (cellOf (at .run) (at .clause)) (at .q))
 other-at c at =
-    let after-clause-start = after-clause-start-of-after-wide c in
+    let after-clause-start = clause-start-before-wide c in
     other-watch at (after-clause-start .clause-start .result) (c .wide .result) (start-is after-clause-start) (watch-is c)
 
 clause-start-requires : tie.Need-clause-start-requires
@@ -124,23 +124,23 @@ wide-requires c κs = search needs
 
 add-other : tie.Need-add-other
 add-other c =
-    let here = at-wide c in
+    let here = here-before-wide c in
     let o = other-at c (start here .pre) in omega arith
 
 mul-other : tie.Need-mul-other
 mul-other c =
-    let here = at-wide c in
+    let here = here-before-wide c in
     let o = other-at c (start here .pre) in omega arith
 
 shared-slice-read-other : tie.Need-shared-slice-read-other
 shared-slice-read-other c =
-    let here = at-wide (c .before) in
+    let here = here-before-wide (c .before) in
     other-at (c .before) (start here .pre) .0
 
 literal-value-requires : tie.Need-literal-value-requires
 literal-value-requires c κs =
     let after-wide = c .before .before in
-    let here = at-wide after-wide in
+    let here = here-before-wide after-wide in
     let b = other-bounded (start here .pre) _ (other-at after-wide (start here .pre) .1) in
     (fits-trail (fits-at here), b .0, omega (arith, b .1, variables-are here))
 
@@ -150,7 +150,7 @@ enum-told c = search needs
 keep-requires : tie.Need-keep-requires
 keep-requires c κs =
     let after-wide = c .before .before .before .before .before .before in
-    let here = at-wide after-wide in
+    let here = here-before-wide after-wide in
     (fits-at here, standing-at here)
 
 enum-told-2 : tie.Need-enum-told-2
@@ -159,7 +159,7 @@ enum-told-2 c = search needs
 seek-requires : tie.Need-seek-requires
 seek-requires c κs =
     let after-wide = c .before .before .before .before .before .before in
-    let here = at-wide after-wide in
+    let here = here-before-wide after-wide in
     visited-seeks (start here .pre) (variables here) _ true (variables-are here) (other-at after-wide (start here .pre) .1)
     (sym (c .before .enum-told2 .given .1) ∙ c .before .before .before .literal-value .ensures)
 
@@ -169,7 +169,7 @@ enum-told-3 c = search needs
 seek-requires-2 : tie.Need-seek-requires-2
 seek-requires-2 c κs =
     let after-wide = c .before .before .before .before .before .before in
-    let here = at-wide after-wide in
+    let here = here-before-wide after-wide in
     visited-seeks (start here .pre) (variables here) _ false (variables-are here) (other-at after-wide (start here .pre) .1)
     (sym (c .before .enum-told3 .given .1) ∙ c .before .before .before .literal-value .ensures)
 
@@ -180,7 +180,7 @@ returns : tie.Need-returns
 returns c =
     let after-literal-value = c .before .before .before .before in
     let after-wide = after-literal-value .before .before .before in
-    let here = at-wide after-wide in
+    let here = here-before-wide after-wide in
     λ at. visited-stays at (variables here) (clauses here) _ (c .keep .result) (variables-are here) (clauses-are here) (other-at after-wide at .1)
     (sym (c .before .before .enum-told .given .1) ∙ after-literal-value .literal-value .ensures) (c .keep .ensures)
 
@@ -192,7 +192,7 @@ returns-2 c =
     let after-enum-told2 = c .before .before .before .before in
     let after-literal-value = after-enum-told2 .before .before in
     let after-wide = after-literal-value .before .before .before in
-    let here = at-wide after-wide in
+    let here = here-before-wide after-wide in
     λ at. visited-sought at (variables here) _ true (variables-are here) (other-at after-wide at .1)
     (sym (after-enum-told2 .enum-told2 .given .1) ∙ after-literal-value .literal-value .ensures) _ _ (c .before .before .seek .ensures)
 
@@ -204,7 +204,7 @@ returns-3 c =
     let after-enum-told3 = c .before .before .before .before in
     let after-literal-value = after-enum-told3 .before .before in
     let after-wide = after-literal-value .before .before .before in
-    let here = at-wide after-wide in
+    let here = here-before-wide after-wide in
     λ at. visited-sought at (variables here) _ false (variables-are here) (other-at after-wide at .1)
     (sym (after-enum-told3 .enum-told3 .given .1) ∙ after-literal-value .literal-value .ensures) _ _ (c .before .before .seek2 .ensures)
 

@@ -21,16 +21,16 @@ clause-start-requires-2 c κs =
     let entry = c .before .before .before .before in
     (entry .pre .0 .fits .well, omega arith)
 
-abbrev entry-of-after-clause-start2 : tie.After-clause-start2 → tie.Start
-entry-of-after-clause-start2 c = c .before .before .before .before .before
+abbrev entry-before-clause-start2 : tie.After-clause-start2 → tie.Start
+entry-before-clause-start2 c = c .before .before .before .before .before
 
 -- the clause lies within the book
 inside : (c : tie.After-clause-start2) →
-    let entry = entry-of-after-clause-start2 c in
+    let entry = entry-before-clause-start2 c in
     (c .before .clause-start .result ≤ c .clause-start2 .result)
     × (c .clause-start2 .result ≤ length (entry .args .book .now))
 inside c =
-    let start = entry-of-after-clause-start2 c in
+    let start = entry-before-clause-start2 c in
     passed-inside (start .args .book .now) _ (start .pre .0) (start .args .c) _ _ (start .pre .1) (c .before .clause-start .ensures)
     (c .clause-start2 .ensures)
 
@@ -59,7 +59,7 @@ all-false-requires c κs =
 returns : tie.Need-returns
 returns c =
     let clause = c .before .before in
-    let start = entry-of-after-clause-start2 clause in
+    let start = entry-before-clause-start2 clause in
     false-at (start .args .book .now) (start .args .session .now) (start .args .c) _ _ _ (clause .before .before .variables .ensures)
     (clause .before .clause-start .ensures) (clause .clause-start2 .ensures) (start .pre .1) _ (c .all-false .ensures)
 

@@ -24,21 +24,21 @@ returns c = unit-fixpoint _ _ _ _ _ (omega arith) (c .height-of .ensures)
 returns-2 : tie.Need-returns-2
 returns-2 c = says-true (none-fixpoint _ _ _ _ (omega arith) (λ one. omega arith))
 
-abbrev entry-of-else2 : tie.Else2 → tie.Start
-entry-of-else2 c = c .before .before .before .before
+abbrev entry-before-else2 : tie.Else2 → tie.Start
+entry-before-else2 c = c .before .before .before .before
 
 -- the clause has two literals or more, and the watches are positions in it
 two-at : (c : tie.Else2) →
-    let entry = entry-of-else2 c in
+    let entry = entry-before-else2 c in
     2 ≤ length (entry .args .clause .now)
 two-at c = omega arith
 
 within-at : (c : tie.Else2) →
-    let entry = entry-of-else2 c in
+    let entry = entry-before-else2 c in
     let args = entry .args in
     (args .first < length (args .clause .now)) × (args .second < length (args .clause .now))
 within-at c =
-    let entry = entry-of-else2 c in
+    let entry = entry-before-else2 c in
     entry .pre .1 .1 (two-at c)
 
 mul-a : tie.Need-mul-a
@@ -73,7 +73,7 @@ returns-3 c =
 guards-requires-2 : tie.Need-guards-requires-2
 guards-requires-2 c κs =
     let else2 = c .before .before .before .before in
-    let start = entry-of-else2 else2 in
+    let start = entry-before-else2 else2 in
     let within = within-at else2 in (
       start .pre .0,
       (

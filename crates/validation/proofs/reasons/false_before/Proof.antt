@@ -23,12 +23,15 @@ place-of-requires-2 c κs =
     let start = c .before .before .before .before in
     (start .pre .0, rw (c .opposite .ensures) (opposite-within _ _ (start .pre .1)))
 
+abbrev start-before-place-of2 : tie.After-place-of2 → tie.Start
+start-before-place-of2 c = c .before .before .before .before .before
+
 -- the place of the opposite
 against : (c : tie.After-place-of2) →
-    let start = c .before .before .before .before .before in
+    let start = start-before-place-of2 c in
     c .place-of2 .result ≡ place (trailOf (start .args .variables) (start .args .session .now)) (opposite (start .args .literal))
 against c =
-    let start = c .before .before .before .before .before in
+    let start = start-before-place-of2 c in
     c .place-of2 .ensures ∙ ap (place (trailOf (start .args .variables) (start .args .session .now))) (c .before .opposite .ensures)
 
 returns-2 : tie.Need-returns-2
