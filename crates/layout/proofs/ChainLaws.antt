@@ -202,12 +202,6 @@ Apart formula cells lists =
     (l d m e : ℕ) → 0 < times d (listOf lists l) → 0 < times e (listOf lists m) → nodeOf formula cells l d ≡ nodeOf formula cells m e → l ≡ m
 
 module _ (formula : Formula) where
-  abbrev vars : ℕ
-  vars = formula .variables
-
-  abbrev many : ℕ
-  many = length (formula .clauses)
-
   pub node-between : (cells : List Cell) (l : ℕ) → Nodes (nodeOf formula cells l)
   unfolding nodeOf
   node-between cells l d = go (eqb (getD (clauseOf formula d) (cellAt cells d .first) 0) l)

@@ -1,7 +1,7 @@
 // Steps of a trial on a session: a name, and numbers behind it, parted by blanks.
-use calls::answers::WAS_REFUSED;
-use calls::call;
-use calls::reads::list_last;
+use trial_calls::answers::WAS_REFUSED;
+use trial_calls::call;
+use trial_calls::reads::list_last;
 use trials::damage;
 use trials::messages;
 use trials::names;

@@ -88,20 +88,20 @@ module _ (book session : List ℕ) where
     holding = record { well = well; run = held (formulaOf book) session; encodes = facts .1; valid = facts .0 }
 
     -- the parts of the session are there
-    room : SessionFits book session
-    room = held-fits well (facts .1)
+    parts-there : SessionFits book session
+    parts-there = held-fits well (facts .1)
 
     pub long : requiredLength (variablesOf book) (clausesOf book) ≤ length session
-    long = room .long
+    long = parts-there .long
 
     pub few-variables : variablesOf book ≤ maxVariables
     few-variables = well-formed-limited book well .variables
 
     pub fits : (v c : ℕ) → v ≡ variablesOf book → c ≡ clausesOf book → Fits v c session
-    fits v c a b = session-fits v c a b room
+    fits v c a b = session-fits v c a b parts-there
 
     pub trail-fits : (v : ℕ) → v ≡ variablesOf book → TrailFits v session
-    trail-fits v e = session-trail-fits v e room
+    trail-fits v e = session-trail-fits v e parts-there
 
     -- what is read for a literal answers for the trail
     pub value-answers : (x l : ℕ) (r : Value) → x ≡ variablesOf book → 2 ≤ l → variableOf l ≤ x

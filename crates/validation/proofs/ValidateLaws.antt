@@ -31,7 +31,7 @@ use Rattle.validation.proofs.PassLaws.{passes-iff}
 
 -- the conditions that a session has to meet in conflict and out of it
 pub record Built (book numbers : List ℕ) : Type 0 where
-  pub fits : SessionFits book numbers
+  pub enough : SessionFits book numbers
   pub conflict-within : getD numbers conflictAt 0 ≤ clausesOf book
   pub backtracks-within : getD numbers backtracksAt 0 ≤ maxBacktracks
   pub trail : TrailGood (variablesOf book) numbers
@@ -49,7 +49,7 @@ pub record PartsPass (book numbers : List ℕ) : Type 0 where
 -- what is read of the book, and the conditions at it
 module _ (book numbers : List ℕ) (v : ℕ) (is : v ≡ variablesOf book) where
   pub short-at : (n : ℕ) → n ≡ clausesOf book → length numbers < requiredLength v n → PartsPass book numbers → ⊥
-  short-at n clauses short p = omega (arith, p .built .fits .long)
+  short-at n clauses short p = omega (arith, p .built .enough .long)
 
   pub trail-to : TrailGood v numbers → TrailGood (variablesOf book) numbers
   trail-to good = rw is at good
@@ -68,7 +68,7 @@ module _ (book numbers : List ℕ) (k : ℕ) (is : k ≡ getD numbers conflictAt
 module _ (book numbers : List ℕ) (well : wellFormed book ≡ true) where
   module _ (p : PartsPass book numbers) where
     long-checks : length (formulaOf book .clauses) ≤ length (drop (checksAt (variablesOf book) (length (formulaOf book .clauses))) numbers)
-    long-checks = rw length-drop (omega (arith, p .built .fits .long, clauses-counted book))
+    long-checks = rw length-drop (omega (arith, p .built .enough .long, clauses-counted book))
 
     check-at : (c : ℕ) → c < length (formulaOf book .clauses)
         → getD numbers (checksAt (variablesOf book) (length (formulaOf book .clauses)) + c) 0
@@ -97,7 +97,7 @@ module _ (book numbers : List ℕ) (well : wellFormed book ≡ true) where
     unfolding held
     parts-encodes =
         record {
-          long = omega (arith, p .built .fits .long, clauses-counted book);
+          long = omega (arith, p .built .enough .long, clauses-counted book);
           trail = p .built .trail .is-held;
           conflict = refl;
           backtracks = refl;
@@ -143,7 +143,7 @@ module _ (book numbers : List ℕ) (well : wellFormed book ≡ true) where
       record {
         built =
             record {
-              fits = held-fits well e;
+              enough = held-fits well e;
               conflict-within = within (below 0 (getD numbers conflictAt 0));
               backtracks-within = v .backtracks-within;
               trail =

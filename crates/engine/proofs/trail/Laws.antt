@@ -31,7 +31,7 @@ module _ (v : ℕ) (numbers : List ℕ) (l level : ℕ) where
   pub assign-length : length (assignNums v numbers l level) ≡ length numbers
   assign-length = simp length-set
 
-  pub assign-other : (j : ℕ) → (j ≡ 0 → ⊥) → (j ≡ trailAt + getD numbers lengthAt 0 → ⊥) → (j ≡ levelsAt v + getD numbers lengthAt 0 → ⊥)
+  pub assign-other : (j : ℕ) → (j ≡ lengthAt → ⊥) → (j ≡ trailAt + getD numbers lengthAt 0 → ⊥) → (j ≡ levelsAt v + getD numbers lengthAt 0 → ⊥)
       → (j ≡ valueSlot v l → ⊥) → getD (assignNums v numbers l level) j 0 ≡ getD numbers j 0
   assign-other j n0 n1 n2 n3 =
       getD-set-other storedValue lengthAt j (getD numbers lengthAt 0 + 1) 0 n0

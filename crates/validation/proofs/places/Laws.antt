@@ -16,16 +16,16 @@ use Rattle.validation.specs.Inner.Places.{Readable, TrailPassed}
 -- numbers of a well-formed book's length may be read, and the book's clauses are sound
 module _ (book numbers : List ℕ) (x : TrailPassed book numbers) (v : ℕ) (is : v ≡ variablesOf book) where
   pub passed-readable : Readable v numbers
-  passed-readable = record { fits = session-trail-fits v is (x .fits); good = rw is (x .good) }
+  passed-readable = record { fits = session-trail-fits v is (x .enough); good = rw is (x .good) }
 
   pub passed-clause : (c s e : ℕ) → c < clausesOf book → s ≡ clauseStart book c → e ≡ clauseStart book (c + 1)
       → soundClause v (part s e book) ≡ true
   passed-clause c s e less begin end =
-      rw (is, clause-between book c s e begin end) (well-formed-clause book (x .fits .well) c less)
+      rw (is, clause-between book c s e begin end) (well-formed-clause book (x .enough .well) c less)
 
 pub passed-inside : (book numbers : List ℕ) → TrailPassed book numbers → (c s e : ℕ) → c < clausesOf book → s ≡ clauseStart book c
     → e ≡ clauseStart book (c + 1) → (s ≤ e) × (e ≤ length book)
-passed-inside book numbers x c s e less begin end = clause-inside book (well-formed-parted book (x .fits .well)) c s e less begin end
+passed-inside book numbers x c s e less begin end = clause-inside book (well-formed-parted book (x .enough .well)) c s e less begin end
 
 -- what is read of the book, and its room in the session
 pub record Room (book numbers : List ℕ) (variables clauses : ℕ) : Type 0 where
@@ -34,4 +34,4 @@ pub record Room (book numbers : List ℕ) (variables clauses : ℕ) : Type 0 whe
   pub fits : Fits (variablesOf book) (clausesOf book) numbers
 
 pub passed-fits : (book numbers : List ℕ) → TrailPassed book numbers → Fits (variablesOf book) (clausesOf book) numbers
-passed-fits book numbers x = session-fits (variablesOf book) (clausesOf book) refl refl (x .fits)
+passed-fits book numbers x = session-fits (variablesOf book) (clausesOf book) refl refl (x .enough)

@@ -92,7 +92,7 @@ passed c =
     let long = length-of (c .before .before .before) in
     let start = start-4 c in
     record {
-      fits = enough long;
+      enough = enough long;
       good =
           trail-to (start .args .book .now) (start .args .session .now) _ (long .before .before .before .variables .ensures)
           (c .before .trail-passes .ensures .yes (not-false _ (c .if4 .left)));
@@ -106,7 +106,7 @@ returns-5 c =
     parts-fail _ _ (start-4 (c .before .before) .pre) (λ p. c .before .justified .ensures .no (not-true _ (c .if5 .taken)) (p .built .reasons))
 
 cells-pass-requires : tie.Need-cells-pass-requires
-cells-pass-requires c κs = passed (c .before .before) .fits
+cells-pass-requires c κs = passed (c .before .before) .enough
 
 returns-6 : tie.Need-returns-6
 returns-6 c =
@@ -116,7 +116,7 @@ returns-6 c =
 lists-pass-requires : tie.Need-lists-pass-requires
 lists-pass-requires c κs =
     let trail = c .before .before .before .before in
-    let fits = passed trail .fits in
+    let fits = passed trail .enough in
     record { well = fits .well; fits = session-fits _ _ refl refl fits; cells = c .before .cells-pass .ensures .yes (not-false _ (c .if6 .left)) }
 
 returns-7 : tie.Need-returns-7
@@ -129,7 +129,7 @@ built c =
     let else5 = c .before .before .before .before in
     let trail = passed (trail-of (c .before)) in
     record {
-      fits = trail .fits;
+      enough = trail .enough;
       conflict-within = omega arith;
       backtracks-within = omega arith;
       trail = trail .good;

@@ -15,7 +15,7 @@ pub record Readable (v : ℕ) (numbers : List ℕ) : Type 0 where
 
 -- numbers that are long enough for a session on their book, whose trail passed
 pub record TrailPassed (book numbers : List ℕ) : Type 0 where
-  pub fits : SessionFits book numbers
+  pub enough : SessionFits book numbers
   pub good : TrailGood (variablesOf book) numbers
 
 abbrev pub trailOf : ℕ → List ℕ → List Entry

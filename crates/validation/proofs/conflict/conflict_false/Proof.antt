@@ -11,7 +11,7 @@ variables-requires : tie.Need-variables-requires
 variables-requires c κs = tt
 
 clause-start-requires : tie.Need-clause-start-requires
-clause-start-requires c κs = (c .before .before .before .pre .0 .fits .well, omega arith)
+clause-start-requires c κs = (c .before .before .before .pre .0 .enough .well, omega arith)
 
 add-clause-start : tie.Need-add-clause-start
 add-clause-start c = omega arith
@@ -19,7 +19,7 @@ add-clause-start c = omega arith
 clause-start-requires-2 : tie.Need-clause-start-requires-2
 clause-start-requires-2 c κs =
     let entry = c .before .before .before .before in
-    (entry .pre .0 .fits .well, omega arith)
+    (entry .pre .0 .enough .well, omega arith)
 
 abbrev entry-before-clause-start2 : tie.After-clause-start2 → tie.Start
 entry-before-clause-start2 c = c .before .before .before .before .before

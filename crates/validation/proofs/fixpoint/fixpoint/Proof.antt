@@ -51,13 +51,13 @@ loop-holds c =
     (room, c .watches-at .ensures, omega arith, λ k h. absurd (omega arith))
 
 clause-start-requires : tie.Need-clause-start-requires Inv-loop μ-loop
-clause-start-requires c κs = (start-of (c .before) .pre .0 .fits .well, omega arith)
+clause-start-requires c κs = (start-of (c .before) .pre .0 .enough .well, omega arith)
 
 add-clause-start : tie.Need-add-clause-start Inv-loop μ-loop
 add-clause-start c = omega arith
 
 clause-start-requires-2 : tie.Need-clause-start-requires-2 Inv-loop μ-loop
-clause-start-requires-2 c κs = (start-of (c .before .before) .pre .0 .fits .well, omega arith)
+clause-start-requires-2 c κs = (start-of (c .before .before) .pre .0 .enough .well, omega arith)
 
 mul-wide : tie.Need-mul-wide Inv-loop μ-loop
 mul-wide c = omega arith

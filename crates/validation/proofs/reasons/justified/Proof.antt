@@ -35,13 +35,13 @@ loop-holds : tie.Need-loop-holds Inv-loop μ-loop
 loop-holds c = (omega arith, marking-none _ _)
 
 clause-start-requires : tie.Need-clause-start-requires Inv-loop μ-loop
-clause-start-requires c κs = (start-of (c .before) .pre .fits .well, omega arith)
+clause-start-requires c κs = (start-of (c .before) .pre .enough .well, omega arith)
 
 add-clause-start : tie.Need-add-clause-start Inv-loop μ-loop
 add-clause-start c = omega arith
 
 clause-start-requires-2 : tie.Need-clause-start-requires-2 Inv-loop μ-loop
-clause-start-requires-2 c κs = (start-of (c .before .before) .pre .fits .well, omega arith)
+clause-start-requires-2 c κs = (start-of (c .before .before) .pre .enough .well, omega arith)
 
 -- the clause is one of the book's and lies within it
 exists : (c : tie.After-clause-start2 Inv-loop μ-loop) → turn-of c .loop .c < clausesOf (start-of (turn-of c) .args .book .now)

@@ -3,8 +3,8 @@ use Prim.Native.Nat.{_≤_}
 use mathlib.Core.Path.{_≡_}
 use borrow.Author.Needs.{needs}
 use lib.ListN.{length}
-use Rattle.calls.proofs.decide_many.Statement.{statement}
-use Rattle.calls.proofs.decide_many.Tie as tie
+use Rattle.trial_calls.proofs.decide_many.Statement.{statement}
+use Rattle.trial_calls.proofs.decide_many.Tie as tie
 
 abbrev Inv-loop : tie.InvT-loop
 Inv-loop book session₀ first times literal₀ left₀ session literal left = (left ≤ times) × (length session ≡ length session₀)

@@ -30,7 +30,7 @@ fn copy_to(book: &[u32], session: &[u32], step: usize, before: u32, n: usize) ->
 }
 
 // The call of a step by its name. Answers 0, or that it was refused.
-pub fn read(book: &[u32], session: &[u32], step: usize, a: u32, b: u32) -> u32 {
+pub(crate) fn read(book: &[u32], session: &[u32], step: usize, a: u32, b: u32) -> u32 {
     match step {
         names::LOOKUP => answers::assigned(a, session::lookup(book, session, a)),
         names::FIGURES => answers::figures(session::figures(book, session)),

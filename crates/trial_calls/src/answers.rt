@@ -16,7 +16,7 @@ use trials::space::untouched;
 // Instead of a number of literals: the call was refused.
 pub const WAS_REFUSED: u32 = 4_294_967_295;
 
-pub fn refused(refusal: u32) -> u32 {
+pub(crate) fn refused(refusal: u32) -> u32 {
     say(messages::REFUSED, refusal);
     WAS_REFUSED
 }
@@ -31,7 +31,7 @@ fn called(literal: u32) {
 }
 
 // What an opening or a decision answers.
-pub fn propagated(literal: u32, answer: Answer) -> u32 {
+pub(crate) fn propagated(literal: u32, answer: Answer) -> u32 {
     match answer {
         Answer::Implied(count) => {
             called(literal);
@@ -49,14 +49,14 @@ pub fn propagated(literal: u32, answer: Answer) -> u32 {
 }
 
 // What a list of calls answers, where it is to be said.
-pub fn replayed(said: bool, answer: Answer) -> u32 {
+pub(crate) fn replayed(said: bool, answer: Answer) -> u32 {
     if said {
         return propagated(0, answer);
     }
     0
 }
 
-pub fn back(k: u32, answer: Back) -> u32 {
+pub(crate) fn back(k: u32, answer: Back) -> u32 {
     match answer {
         Back::Done => {
             say(messages::BACKTRACK, k);
@@ -76,7 +76,7 @@ fn value(answer: Assigned) -> u32 {
     }
 }
 
-pub fn assigned(variable: u32, answer: Assigned) -> u32 {
+pub(crate) fn assigned(variable: u32, answer: Assigned) -> u32 {
     let word = value(answer);
     if word == WAS_REFUSED {
         return word;
@@ -86,7 +86,7 @@ pub fn assigned(variable: u32, answer: Assigned) -> u32 {
     0
 }
 
-pub fn sum(answer: Sum) -> u32 {
+pub(crate) fn sum(answer: Sum) -> u32 {
     match answer {
         Sum::Checks(checks) => {
             say_wide(messages::TOTAL, checks as usize);
@@ -96,7 +96,7 @@ pub fn sum(answer: Sum) -> u32 {
     }
 }
 
-pub fn figures(answer: Shown) -> u32 {
+pub(crate) fn figures(answer: Shown) -> u32 {
     match answer {
         Shown::Of {
             decisions,
@@ -114,7 +114,7 @@ pub fn figures(answer: Shown) -> u32 {
     }
 }
 
-pub fn required_length(answer: Count) -> u32 {
+pub(crate) fn required_length(answer: Count) -> u32 {
     match answer {
         Count::Of(n) => {
             say(messages::REQUIRED, n);
@@ -125,7 +125,7 @@ pub fn required_length(answer: Count) -> u32 {
 }
 
 // A count, behind a word, and what the numbers hold that were lent for a copy; a refusal must leave them alone.
-pub fn copied(word: u32, answer: Count, copy: &[u32]) -> u32 {
+pub(crate) fn copied(word: u32, answer: Count, copy: &[u32]) -> u32 {
     match answer {
         Count::Of(n) => {
             say(word, n);
@@ -142,7 +142,7 @@ pub fn copied(word: u32, answer: Count, copy: &[u32]) -> u32 {
 }
 
 // How long the trail is, 0 where it is not told.
-pub fn length(answer: Count) -> usize {
+pub(crate) fn length(answer: Count) -> usize {
     match answer {
         Count::Of(n) => wide(n),
         Count::Refused(_) => 0,
@@ -150,7 +150,7 @@ pub fn length(answer: Count) -> usize {
 }
 
 // The form of a book.
-pub fn form(well_formed: bool) -> u32 {
+pub(crate) fn form(well_formed: bool) -> u32 {
     if well_formed {
         messages::print(messages::WELL_FORMED);
         return 0;
