@@ -67,29 +67,35 @@ abbrev here-before-else1 : tie.Else1 → tie.After-clause-start2
 here-before-else1 c = c .before
 
 -- a clause of two literals or more
-two : (c : tie.Else1) → 2 ≤ length (clauseAt (book (here-before-else1 c)) (start (here-before-else1 c) .args .c))
+two : (c : tie.Else1) →
+    let here = here-before-else1 c in
+    2 ≤ length (clauseAt (book here) (start here .args .c))
 two c = omega (arith, clause-at (c .before) .size-is, c .if1 .left)
 
 literal-at : (c : tie.Else1) →
+    let here = here-before-else1 c in
     let after-clause-start = c .before .before in
     (i : ℕ) → i < 2
-    → (2 ≤ getD (book (here-before-else1 c)) (after-clause-start .clause-start .result + i) 0)
-    × (getD (book (here-before-else1 c)) (after-clause-start .clause-start .result + i) 0 ≤ 2 * variables (here-before-else1 c) + 1)
+    → (2 ≤ getD (book here) (after-clause-start .clause-start .result + i) 0)
+    × (getD (book here) (after-clause-start .clause-start .result + i) 0 ≤ 2 * variables here + 1)
 literal-at c i h =
-    let few : i < length (clauseAt (book (here-before-else1 c)) (start (here-before-else1 c) .args .c)) = omega (arith, two c) in
+    let here = here-before-else1 c in
+    let few : i < length (clauseAt (book here) (start here .args .c)) = omega (arith, two c) in
     let bounds = clause-at (c .before) .bounds i few in
     let is = clause-at (c .before) .literal i few in
-    (omega (arith, is, bounds .0), omega (arith, is, bounds .1, variables-are (here-before-else1 c)))
+    (omega (arith, is, bounds .0), omega (arith, is, bounds .1, variables-are here))
 
 first-at : (c : tie.Else1) →
+    let here = here-before-else1 c in
     let after-clause-start = c .before .before in
-    (2 ≤ getD (book (here-before-else1 c)) (after-clause-start .clause-start .result) 0)
-    × (getD (book (here-before-else1 c)) (after-clause-start .clause-start .result) 0 ≤ 2 * variables (here-before-else1 c) + 1)
+    (2 ≤ getD (book here) (after-clause-start .clause-start .result) 0)
+    × (getD (book here) (after-clause-start .clause-start .result) 0 ≤ 2 * variables here + 1)
 first-at c =
-    let few : 0 < length (clauseAt (book (here-before-else1 c)) (start (here-before-else1 c) .args .c)) = omega (arith, two c) in
+    let here = here-before-else1 c in
+    let few : 0 < length (clauseAt (book here) (start here .args .c)) = omega (arith, two c) in
     let bounds = clause-at (c .before) .bounds 0 few in
     let is = clause-at (c .before) .first few in
-    (omega (arith, is, bounds .0), omega (arith, is, bounds .1, variables-are (here-before-else1 c)))
+    (omega (arith, is, bounds .0), omega (arith, is, bounds .1, variables-are here))
 
 abbrev here-before-set-watch : tie.After-set-watch → tie.After-clause-start2
 here-before-set-watch c = c .before .before .before

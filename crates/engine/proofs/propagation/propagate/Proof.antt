@@ -137,10 +137,11 @@ then2-before-then3 c = c .before .before .before .before .before .before
 
 -- the clause that is next
 reading-at : (c : tie.Then3 Inv-loop μ-loop Inv-propagating μ-propagating) →
+    let here = then2-before-then3 c in
     let at-loop = c .before .before in
-    (next : Next (book (then2-before-then3 c)) (numbers (then2-before-then3 c)) (place (then2-before-then3 c)))
+    (next : Next (book here) (numbers here) (place here))
     → (d : ℕ) × (unread : List ℕ)
-    × ReadingOn (book (then2-before-then3 c)) (numbers (then2-before-then3 c)) (at-loop .loop .session) (place (then2-before-then3 c)) (at-loop .loop .walk) (next .run) (d ∷ unread)
+    × ReadingOn (book here) (numbers here) (at-loop .loop .session) (place here) (at-loop .loop .walk) (next .run) (d ∷ unread)
 reading-at c next = reading-on-more (book (then2-before-then3 c)) (c .before .before .loop .inv next) (c .if3 .taken)
 
 visit-clause-requires :
@@ -158,13 +159,15 @@ then2-before-visit-clause c = c .before .before .before .before .before .before 
 
 -- it was visited
 visited-at : (c : tie.After-visit-clause Inv-loop μ-loop Inv-propagating μ-propagating) →
+    let here = then2-before-visit-clause c in
     let then3 = c .before .before in
-    (next : Next (book (then2-before-visit-clause c)) (numbers (then2-before-visit-clause c)) (place (then2-before-visit-clause c)))
-    → Visited (book (then2-before-visit-clause c)) (then3 .before .before .loop .session) (c .visit-clause .last .1 .0)
-    (visiting (book (then2-before-visit-clause c)) (reading-at then3 next .0) (reading-at then3 next .1) (start (then2-before-visit-clause c) .pre .well) (reading-at then3 next .2)) (c .visit-clause .result)
+    (next : Next (book here) (numbers here) (place here))
+    → Visited (book here) (then3 .before .before .loop .session) (c .visit-clause .last .1 .0)
+    (visiting (book here) (reading-at then3 next .0) (reading-at then3 next .1) (start here .pre .well) (reading-at then3 next .2)) (c .visit-clause .result)
 visited-at c next =
+    let here = then2-before-visit-clause c in
     let then3 = c .before .before in
-    c .visit-clause .ensures (visiting (book (then2-before-visit-clause c)) (reading-at then3 next .0) (reading-at then3 next .1) (start (then2-before-visit-clause c) .pre .well) (reading-at then3 next .2))
+    c .visit-clause .ensures (visiting (book here) (reading-at then3 next .0) (reading-at then3 next .1) (start here .pre .well) (reading-at then3 next .2))
 
 abbrev then2-before-next : tie.After-next Inv-loop μ-loop Inv-propagating μ-propagating → tie.Then2 Inv-loop μ-loop Inv-propagating μ-propagating
 then2-before-next c = c .before .before .before .before .before .before .before .before .before .before .before .before
@@ -173,13 +176,15 @@ abbrev visit-clause-before-next : tie.After-next Inv-loop μ-loop Inv-propagatin
 visit-clause-before-next c = c .before .before .before .before
 
 read-on : (c : tie.After-next Inv-loop μ-loop Inv-propagating μ-propagating) →
+    let here = then2-before-next c in
     let after-visit-clause = visit-clause-before-next c in
-    (next : Next (book (then2-before-next c)) (numbers (then2-before-next c)) (place (then2-before-next c)))
-    → ReadingOn (book (then2-before-next c)) (numbers (then2-before-next c)) (after-visit-clause .visit-clause .last .1 .0) (place (then2-before-next c)) (c .next .given .0 .0) (next .run) (reading-at (after-visit-clause .before .before) next .1)
+    (next : Next (book here) (numbers here) (place here))
+    → ReadingOn (book here) (numbers here) (after-visit-clause .visit-clause .last .1 .0) (place here) (c .next .given .0 .0) (next .run) (reading-at (after-visit-clause .before .before) next .1)
 read-on c next =
+    let here = then2-before-next c in
     let after-visit-clause = visit-clause-before-next c in
     let p = reading-at (after-visit-clause .before .before) next in
-    reading-on-next (book (then2-before-next c)) (p .0) (p .1) (start (then2-before-next c) .pre .well) (p .2) (after-visit-clause .visit-clause .result) (visited-at after-visit-clause next)
+    reading-on-next (book here) (p .0) (p .1) (start here .pre .well) (p .2) (after-visit-clause .visit-clause .result) (visited-at after-visit-clause next)
     (c .next .given .0 .0) (c .next .given .1)
 
 loop-less : tie.Need-loop-less Inv-loop μ-loop Inv-propagating μ-propagating
@@ -240,17 +245,19 @@ visit-clause-before-enum-told c = c .before .before .before .before
 
 -- a conflict
 ended-at : (c : tie.After-enum-told Inv-loop μ-loop Inv-propagating μ-propagating) →
+    let here = then2-before-enum-told c in
     let after-visit-clause = visit-clause-before-enum-told c in
-    (begun : Propagating (book (then2-before-enum-told c)) (session (then2-before-enum-told c)) (start (then2-before-enum-told c) .args .handled))
-    → Becomes (book (then2-before-enum-told c)) (session (then2-before-enum-told c)) (after-visit-clause .visit-clause .last .1 .0) (propagate (formulaOf (book (then2-before-enum-told c))) (start (then2-before-enum-told c) .args .handled) (begun .run))
+    (begun : Propagating (book here) (session here) (start here .args .handled))
+    → Becomes (book here) (session here) (after-visit-clause .visit-clause .last .1 .0) (propagate (formulaOf (book here)) (start here .args .handled) (begun .run))
 ended-at c begun =
+    let here = then2-before-enum-told c in
     let after-visit-clause = visit-clause-before-enum-told c in
     let at-propagating = after-visit-clause .before .before .before .before .before .before .before .before .before .before .before in
     let s = at-propagating .propagating .inv begun in
-    let next = propagating-next (book (then2-before-enum-told c)) (start (then2-before-enum-told c) .pre .well) s (more-at (then2-before-enum-told c)) in
+    let next = propagating-next (book here) (start here .pre .well) s (more-at here) in
     let p = reading-at (after-visit-clause .before .before) next in
-    let e = reading-on-conflict (book (then2-before-enum-told c)) (p .0) (p .1) (start (then2-before-enum-told c) .pre .well) (p .2) (after-visit-clause .visit-clause .result) (visited-at after-visit-clause next) (c .enum-told .given .1) in
-    propagating-conflict (book (then2-before-enum-told c)) (start (then2-before-enum-told c) .pre .well) s (more-at (then2-before-enum-told c)) (e .0) (e .1)
+    let e = reading-on-conflict (book here) (p .0) (p .1) (start here .pre .well) (p .2) (after-visit-clause .visit-clause .result) (visited-at after-visit-clause next) (c .enum-told .given .1) in
+    propagating-conflict (book here) (start here .pre .well) s (more-at here) (e .0) (e .1)
 
 same-length-2 : tie.Need-same-length-2 Inv-loop μ-loop Inv-propagating μ-propagating
 same-length-2 c =

@@ -63,30 +63,44 @@ clause-is c = scanned-clause (start c .pre) _ _ (c .before .clause-start .ensure
 abbrev here-before-watches-at : tie.After-watches-at → tie.After-clause-start2
 here-before-watches-at c = c .before .before
 
-values-are : (c : tie.After-watches-at)
-    → part (c .before .values-at .result) (c .watches-at .result) (session (here-before-watches-at c))
-    ≡ take (variablesOf (book (here-before-watches-at c))) (drop (valuesAt (variablesOf (book (here-before-watches-at c)))) (session (here-before-watches-at c)))
-values-are c = values-part _ (variables (here-before-watches-at c)) _ _ _ (variables-are (here-before-watches-at c)) (c .before .values-at .ensures) (c .watches-at .ensures)
+values-are : (c : tie.After-watches-at) →
+    let here = here-before-watches-at c in
+    part (c .before .values-at .result) (c .watches-at .result) (session here)
+    ≡ take (variablesOf (book here)) (drop (valuesAt (variablesOf (book here))) (session here))
+values-are c =
+    let here = here-before-watches-at c in
+    values-part _ (variables here) _ _ _ (variables-are here) (c .before .values-at .ensures) (c .watches-at .ensures)
 
 abbrev here-before-wide : tie.After-wide → tie.After-clause-start2
 here-before-wide c = c .before .before .before .before
 
-first-is : (c : tie.After-wide) → c .wide .result ≡ getD (session (here-before-wide c)) (watchesAt (variablesOf (book (here-before-wide c))) + 2 * start (here-before-wide c) .args .c) 0
-first-is c = c .wide .ensures ∙ ap (λ (x : ℕ). getD (session (here-before-wide c)) x 0) (omega (arith, c .before .before .watches-at .ensures, variables-are (here-before-wide c)))
+first-is : (c : tie.After-wide) →
+    let here = here-before-wide c in
+    c .wide .result ≡ getD (session here) (watchesAt (variablesOf (book here)) + 2 * start here .args .c) 0
+first-is c =
+    let here = here-before-wide c in
+    c .wide .ensures ∙ ap (λ (x : ℕ). getD (session here) x 0) (omega (arith, c .before .before .watches-at .ensures, variables-are here))
 
 abbrev here-before-wide2 : tie.After-wide2 → tie.After-clause-start2
 here-before-wide2 c = c .before .before .before .before .before .before
 
-second-is : (c : tie.After-wide2) → c .wide2 .result ≡ getD (session (here-before-wide2 c)) (watchesAt (variablesOf (book (here-before-wide2 c))) + 2 * start (here-before-wide2 c) .args .c + 1) 0
+second-is : (c : tie.After-wide2) →
+    let here = here-before-wide2 c in
+    c .wide2 .result ≡ getD (session here) (watchesAt (variablesOf (book here)) + 2 * start here .args .c + 1) 0
 second-is c =
+    let here = here-before-wide2 c in
     let after-watches-at = c .before .before .before .before in
-    c .wide2 .ensures ∙ ap (λ (x : ℕ). getD (session (here-before-wide2 c)) x 0) (omega (arith, after-watches-at .watches-at .ensures, variables-are (here-before-wide2 c)))
+    c .wide2 .ensures ∙ ap (λ (x : ℕ). getD (session here) x 0) (omega (arith, after-watches-at .watches-at .ensures, variables-are here))
 
 abbrev here-before-wide3 : tie.After-wide3 → tie.After-clause-start2
 here-before-wide3 c = c .before .before .before .before .before .before .before .before .before
 
-pointer-is : (c : tie.After-wide3) → c .wide3 .result ≡ getD (session (here-before-wide3 c)) (pointersAt (variablesOf (book (here-before-wide3 c))) (clausesOf (book (here-before-wide3 c))) + start (here-before-wide3 c) .args .c) 0
-pointer-is c = c .wide3 .ensures ∙ ap (λ (x : ℕ). getD (session (here-before-wide3 c)) x 0) (omega (arith, c .before .before .pointers-at .ensures, variables-are (here-before-wide3 c), clauses-are (here-before-wide3 c)))
+pointer-is : (c : tie.After-wide3) →
+    let here = here-before-wide3 c in
+    c .wide3 .result ≡ getD (session here) (pointersAt (variablesOf (book here)) (clausesOf (book here)) + start here .args .c) 0
+pointer-is c =
+    let here = here-before-wide3 c in
+    c .wide3 .ensures ∙ ap (λ (x : ℕ). getD (session here) x 0) (omega (arith, c .before .before .pointers-at .ensures, variables-are here, clauses-are here))
 
 values-at-requires : tie.Need-values-at-requires
 values-at-requires c κs = omega (arith, fits c, variables-are c)

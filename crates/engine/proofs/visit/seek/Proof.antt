@@ -74,52 +74,62 @@ standing-at c = spot-standing (start c .pre .at) _ _ (variables-are c) (clauses-
 abbrev here-before-checks-at : tie.After-checks-at → tie.After-clause-of-node
 here-before-checks-at c = c .before
 
-count-is : (c : tie.After-checks-at)
-    → c .checks-at .result + (here-before-checks-at c) .clause-of-node .result
-    ≡ checksAt (variables (here-before-checks-at c)) (clauses (here-before-checks-at c)) + clauseOfNode (walk (here-before-checks-at c) .node)
+count-is : (c : tie.After-checks-at) →
+    let here = here-before-checks-at c in
+    c .checks-at .result + here .clause-of-node .result
+    ≡ checksAt (variables here) (clauses here) + clauseOfNode (walk here .node)
 count-is c = omega (arith, c .checks-at .ensures, here-before-checks-at c .clause-of-node .ensures)
 
 abbrev here-before-position : tie.After-position → tie.After-clause-of-node
 here-before-position c = c .before .before .before .before .before
 
 -- what the scan answers
-scanned : (c : tie.After-position) (seeking : Sought (here-before-position c))
+scanned : (c : tie.After-position) →
+    let here = here-before-position c in
+    (seeking : Sought here)
     → scannedIn (Found (c .position .given .0 .0) (c .position .given .0 .1 .0))
-    ≡ scan (seeking .at .run .trail) (clauseOf (formulaOf (book (here-before-position c))) (seeking .at .clause)) (cellOf (seeking .at .run) (seeking .at .clause))
+    ≡ scan (seeking .at .run .trail) (clauseOf (formulaOf (book here)) (seeking .at .clause)) (cellOf (seeking .at .run) (seeking .at .clause))
 scanned c seeking = seeking-scanned seeking _ _ _ (c .position .given .1) (here-before-position c .clause-of-node .ensures) (c .before .before .scan-at .ensures)
 
 abbrev here-before-made : tie.After-made → tie.After-clause-of-node
 here-before-made c = c .before .before .before .before .before
 
-missed : (c : tie.After-made) (seeking : Sought (here-before-made c))
+missed : (c : tie.After-made) →
+    let here = here-before-made c in
+    (seeking : Sought here)
     → scannedIn (Nothing (c .made .given .0 .0))
-    ≡ scan (seeking .at .run .trail) (clauseOf (formulaOf (book (here-before-made c))) (seeking .at .clause)) (cellOf (seeking .at .run) (seeking .at .clause))
+    ≡ scan (seeking .at .run .trail) (clauseOf (formulaOf (book here)) (seeking .at .clause)) (cellOf (seeking .at .run) (seeking .at .clause))
 missed c seeking = seeking-scanned seeking _ _ _ (c .made .given .1) (here-before-made c .clause-of-node .ensures) (c .before .before .scan-at .ensures)
 
 abbrev here-before-clause-start : tie.After-clause-start → tie.After-clause-of-node
 here-before-clause-start c = c .before .before .before .before .before .before .before
 
 -- the literal at the position found
-start-is : (c : tie.After-clause-start) → c .clause-start .result ≡ clauseStart (book (here-before-clause-start c)) (clauseOfNode (walk (here-before-clause-start c) .node))
+start-is : (c : tie.After-clause-start) →
+    let here = here-before-clause-start c in
+    c .clause-start .result ≡ clauseStart (book here) (clauseOfNode (walk here .node))
 start-is c = c .clause-start .ensures ∙ ap (clauseStart (book (here-before-clause-start c))) (here-before-clause-start c .clause-of-node .ensures)
 
 found : (c : tie.After-clause-start) →
+    let here = here-before-clause-start c in
     let after-position = c .before .before in
-    (seeking : Sought (here-before-clause-start c))
+    (seeking : Sought here)
     → (after-position .position .given .0 .0 < maxClause)
-    × (c .clause-start .result + after-position .position .given .0 .0 < length (book (here-before-clause-start c)))
-    × (getD (book (here-before-clause-start c)) (c .clause-start .result + after-position .position .given .0 .0) 0
-    ≡ getD (clauseOf (formulaOf (book (here-before-clause-start c))) (seeking .at .clause)) (after-position .position .given .0 .0) 0)
+    × (c .clause-start .result + after-position .position .given .0 .0 < length (book here))
+    × (getD (book here) (c .clause-start .result + after-position .position .given .0 .0) 0
+    ≡ getD (clauseOf (formulaOf (book here)) (seeking .at .clause)) (after-position .position .given .0 .0) 0)
 found c seeking = found-literal seeking _ _ (scanned (c .before .before) seeking) _ (start-is c)
 
 to-bounds : (c : tie.After-clause-start) →
+    let here = here-before-clause-start c in
     let after-position = c .before .before in
-    (2 ≤ getD (book (here-before-clause-start c)) (c .clause-start .result + after-position .position .given .0 .0) 0)
-    × (getD (book (here-before-clause-start c)) (c .clause-start .result + after-position .position .given .0 .0) 0 ≤ 2 * variables (here-before-clause-start c) + 1)
+    (2 ≤ getD (book here) (c .clause-start .result + after-position .position .given .0 .0) 0)
+    × (getD (book here) (c .clause-start .result + after-position .position .given .0 .0) 0 ≤ 2 * variables here + 1)
 to-bounds c =
-    let pre = start (here-before-clause-start c) .pre in
+    let here = here-before-clause-start c in
+    let pre = start here .pre in
     let b = found-bounds pre _ _ (scanned (c .before .before) pre) in
-    (rw (found c pre .2) (b .0), rw (found c pre .2) (omega (arith, b .1, variables-are (here-before-clause-start c))))
+    (rw (found c pre .2) (b .0), rw (found c pre .2) (omega (arith, b .1, variables-are here)))
 
 abbrev here-before-take-out : tie.After-take-out → tie.After-clause-of-node
 here-before-take-out c = c .before .before .before .before .before .before .before .before .before .before

@@ -67,17 +67,22 @@ abbrev here-before-clause-start : tie.After-clause-start → tie.After-clause-of
 here-before-clause-start c = c .before
 
 -- the literal of its other watch
-start-is : (c : tie.After-clause-start) → c .clause-start .result ≡ clauseStart (book (here-before-clause-start c)) (clauseOfNode (walk (here-before-clause-start c) .node))
+start-is : (c : tie.After-clause-start) →
+    let here = here-before-clause-start c in
+    c .clause-start .result ≡ clauseStart (book here) (clauseOfNode (walk here .node))
 start-is c = c .clause-start .ensures ∙ ap (clauseStart (book (here-before-clause-start c))) (c .before .clause-of-node .ensures)
 
 abbrev here-before-wide : tie.After-wide → tie.After-clause-of-node
 here-before-wide c = c .before .before .before .before .before
 
-watch-is : (c : tie.After-wide) → c .wide .result ≡ getD (session (here-before-wide c)) (watchSlot (variablesOf (book (here-before-wide c))) (otherNode (walk (here-before-wide c) .node))) 0
+watch-is : (c : tie.After-wide) →
+    let here = here-before-wide c in
+    c .wide .result ≡ getD (session here) (watchSlot (variablesOf (book here)) (otherNode (walk here .node))) 0
 watch-is c =
+    let here = here-before-wide c in
     c .wide .ensures
-    ∙ ap (λ (x : ℕ). getD (session (here-before-wide c)) x 0)
-    (c .before .before .watch-slot .ensures ∙ ap₂ watchSlot (variables-are (here-before-wide c)) (c .before .before .before .other-node .ensures))
+    ∙ ap (λ (x : ℕ). getD (session here) x 0)
+    (c .before .before .watch-slot .ensures ∙ ap₂ watchSlot (variables-are here) (c .before .before .before .other-node .ensures))
 
 abbrev clause-start-before-wide : tie.After-wide → tie.After-clause-start
 clause-start-before-wide c = c .before .before .before .before
@@ -88,10 +93,11 @@ other c =
     getD (book (here-before-wide c)) (after-clause-start .clause-start .result + c .wide .result) 0
 
 other-at : (c : tie.After-wide) →
+    let here = here-before-wide c in
     let after-clause-start = clause-start-before-wide c in
-    (at : Visiting (book (here-before-wide c)) (session (here-before-wide c)) (walk (here-before-wide c)))
-    → (after-clause-start .clause-start .result + c .wide .result < length (book (here-before-wide c)))
-    × (other c ≡ otherWatch (clauseOf (formulaOf (book (here-before-wide c))) (at .clause)) (cellOf (at .run) (at .clause)) (at .q))
+    (at : Visiting (book here) (session here) (walk here))
+    → (after-clause-start .clause-start .result + c .wide .result < length (book here))
+    × (other c ≡ otherWatch (clauseOf (formulaOf (book here)) (at .clause)) (cellOf (at .run) (at .clause)) (at .q))
 other-at c at =
     let after-clause-start = clause-start-before-wide c in
     other-watch at (after-clause-start .clause-start .result) (c .wide .result) (start-is after-clause-start) (watch-is c)
