@@ -18,7 +18,7 @@ use Rattle.run.specs.Progress.{Watched}
 use Rattle.layout.specs.Layout.{watchesAt, pointersAt, checksAt, requiredLength, nodeOf, headSlot, linkSlot}
 use Rattle.layout.specs.Encodes.{ListsHeld, WatchesHeld, Encodes}
 use Rattle.layout.proofs.ChainLaws.{Within, watched-apart, watched-once}
-use Rattle.engine.specs.Inner.Lists.{listsAt, Orderly, Lists}
+use Rattle.engine.specs.Inner.Lists.{listsAt, Orderly, Lists, linked}
 use Rattle.engine.specs.Inner.Trail.{SameBeside}
 use Rattle.engine.proofs.lists.LinkLaws.{chains-kept}
 
@@ -34,7 +34,7 @@ watched-orderly {formula} {cells} {lists} s w =
 
 pub lists-of : {formula : Formula} {numbers : List ℕ} {run : Run} (v n : ℕ) → formula .variables ≡ v → length (formula .clauses) ≡ n
     → sound formula ≡ true → Watched formula (run .cells) (run .lists) → Encodes formula numbers run
-    → Lists v n numbers formula (run .cells) (run .lists)
+    → Lists linked v n numbers formula (run .cells) (run .lists)
 lists-of v n v-is n-is s w e =
     record {
       variables-are = v-is;
@@ -74,7 +74,7 @@ lists-held-kept formula s t cells after lists within alike same k =
 pub lists-kept : {v n : ℕ} {s t : List ℕ} {formula : Formula} {cells : List Cell} {lists : List (List ℕ)} (after : List Cell) → length t ≡ length s
     → ((x : ℕ) → listsAt v n ≤ x → x < requiredLength v n → getD t x 0 ≡ getD s x 0)
     → ((l d : ℕ) → 0 < times d (listOf lists l) → nodeOf formula after l d ≡ nodeOf formula cells l d)
-    → Lists v n s formula cells lists → Lists v n t formula after lists
+    → Lists linked v n s formula cells lists → Lists linked v n t formula after lists
 lists-kept {v} {n} {s} {t} {formula} {cells} {lists} after long alike same k =
     record {
       variables-are = k .variables-are;

@@ -17,7 +17,7 @@ use Rattle.run.proofs.Order.{pushed-first, pushed-elsewhere, pushed-length}
 use Rattle.layout.specs.Layout.{nodeOf, headSlot, linkSlot}
 use Rattle.layout.specs.Encodes.{Chain, nodesOf}
 use Rattle.layout.proofs.ChainLaws.{node-between}
-use Rattle.engine.specs.Inner.Lists.{Orderly, Lists, Unlisted, PushedFront}
+use Rattle.engine.specs.Inner.Lists.{Orderly, Lists, Unlisted, PushedFront, linked}
 use Rattle.engine.proofs.lists.LinkLaws.{chain-kept, Chains, idle-apart}
 
 -- the stores: the node's link leads to the node that was first, and the head to the node
@@ -37,7 +37,7 @@ pushed-listed lists m c l d inside h = go (alike l m) (alike d c)
     go (inr e) f = inl (rw (pushed-elsewhere lists m c l e) at h)
 
 module _ {v n : ℕ} {before : List ℕ} {formula : Formula} {cells : List Cell} {lists : List (List ℕ)} {m node : ℕ} (c : ℕ)
-    (m-low : 2 ≤ m) (m-high : m ≤ 2 * v + 1) (at : Lists v n before formula cells lists) (two : 2 ≤ size formula c)
+    (m-low : 2 ≤ m) (m-high : m ≤ 2 * v + 1) (at : Lists linked v n before formula cells lists) (two : 2 ≤ size formula c)
     (node-is : nodeOf formula cells m c ≡ node) (free : Unlisted formula cells lists node) where
   abbrev vars : ℕ
   vars = formula .variables
@@ -82,8 +82,8 @@ module _ {v n : ℕ} {before : List ℕ} {formula : Formula} {cells : List Cell}
     own : after ≡ pushNums vars many before m node
     own = rw (at .variables-are, at .clauses-are) after-is
 
-    abbrev linked : List ℕ
-    linked = set before (linkSlot vars many node) (getD before (headSlot vars many m) 0)
+    abbrev joined : List ℕ
+    joined = set before (linkSlot vars many node) (getD before (headSlot vars many m) 0)
 
     pushed-link : getD after (linkSlot vars many node) 0 ≡ getD before (headSlot vars many m) 0
     pushed-link =
@@ -91,20 +91,20 @@ module _ {v n : ℕ} {before : List ℕ} {formula : Formula} {cells : List Cell}
         let a = node-between formula cells m c in
         let b = exists in
         rw own
-        (getD-set-other linked (headSlot vars many m) (linkSlot vars many node) node 0 (λ e. omega (arith, at .variables-are))
+        (getD-set-other joined (headSlot vars many m) (linkSlot vars many node) node 0 (λ e. omega (arith, at .variables-are))
         ∙ getD-set-same before (linkSlot vars many node) (getD before (headSlot vars many m) 0) 0 (omega (arith, at .variables-are, at .clauses-are)))
 
     pushed-head : getD after (headSlot vars many m) 0 ≡ node
     pushed-head =
         let long = at .long in
         rw own
-        (getD-set-same linked (headSlot vars many m) node 0
+        (getD-set-same joined (headSlot vars many m) node 0
         (rw (length-set before (linkSlot vars many node) (getD before (headSlot vars many m) 0)) (omega (arith, at .variables-are, at .clauses-are))))
 
     pushed-other : (x : ℕ) → (x ≡ headSlot vars many m → ⊥) → (x ≡ linkSlot vars many node → ⊥) → getD after x 0 ≡ getD before x 0
     pushed-other x a b =
         rw own
-        (getD-set-other linked (headSlot vars many m) x node 0 a
+        (getD-set-other joined (headSlot vars many m) x node 0 a
         ∙ getD-set-other before (linkSlot vars many node) x (getD before (headSlot vars many m) 0) 0 b)
 
     free-link : (l d : ℕ) → 0 < times d (listOf lists l)
@@ -128,7 +128,7 @@ module _ {v n : ℕ} {before : List ℕ} {formula : Formula} {cells : List Cell}
             (chain-kept vars many before after (nodeOf formula cells l) (nodeOf formula cells l) (headSlot vars many l) (headSlot vars many l) (listOf lists l)
             (pushed-other (headSlot vars many l) (λ z. e (omega arith)) (λ z. omega arith)) (λ d h. (refl, free-link l d h)) (at .held .chains l low high))
 
-    pushed-lists : Lists v n after formula cells (pushFront lists m c)
+    pushed-lists : Lists linked v n after formula cells (pushFront lists m c)
     pushed-lists =
         record {
           variables-are = at .variables-are;
@@ -150,7 +150,7 @@ module _ {v n : ℕ} {before : List ℕ} {formula : Formula} {cells : List Cell}
 
 -- they put the clause at the front
 pub slot-pushed-front : {v n : ℕ} {before after : List ℕ} {l node : ℕ} → 2 ≤ l → l ≤ 2 * v + 1 → 1 ≤ node → node ≤ 2 * n
-    → after ≡ pushNums v n before l node → PushedFront v n before after l node
+    → after ≡ pushNums v n before l node → PushedFront linked v n before after l node
 slot-pushed-front {v} {n} {before} {after} {l} {node} low high some few after-is =
     record {
       only =

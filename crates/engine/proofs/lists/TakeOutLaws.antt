@@ -17,7 +17,7 @@ use Rattle.run.proofs.Order.{taken-out, taken-elsewhere, taken-length}
 use Rattle.layout.specs.Layout.{nodeOf, headSlot, linkSlot, clauseOfNode}
 use Rattle.layout.specs.Encodes.{Chain, nodesOf}
 use Rattle.layout.proofs.ChainLaws.{node-between}
-use Rattle.engine.specs.Inner.Lists.{Orderly, Lists, Walking, Standing, TakenOut}
+use Rattle.engine.specs.Inner.Lists.{Orderly, Lists, Walking, Standing, TakenOut, linked}
 use Rattle.engine.specs.declared.lists.Walk.{Walk}
 use Rattle.engine.proofs.lists.LinkLaws.{chain-kept, chain-without, Chains, idle-apart}
 use Rattle.engine.proofs.lists.WalkLaws.{SlotCase, slot-case, walking-node, walking-on, walking-stands}
@@ -51,7 +51,7 @@ out-fewer lists q c l d q-list = go (alike l q) (alike d c)
     go (inr e) f = rw (taken-elsewhere lists q c l e) (omega arith)
 
 module _ {v n : ℕ} {before : List ℕ} {formula : Formula} {cells : List Cell} {lists : List (List ℕ)} {q c : ℕ} {passed unread : List ℕ} {walk : Walk}
-    (at : Lists v n before formula cells lists) (w : Walking formula cells lists q passed (c ∷ unread) walk) where
+    (at : Lists linked v n before formula cells lists) (w : Walking linked formula cells lists q passed (c ∷ unread) walk) where
   abbrev vars : ℕ
   vars = formula .variables
 
@@ -126,7 +126,7 @@ module _ {v n : ℕ} {before : List ℕ} {formula : Formula} {cells : List Cell}
         go (inl e) =
             rw (e, left-list)
             (chain-without vars many before after (nodeOf formula cells q) (node-between formula cells q) (headSlot vars many q) passed c unread
-            (rw (← w .slot-is) after-slot) (rw (← w .slot-is) after-other) (λ d h z. let a = w .low in let b = w .high in omega arith) once-here
+            (rw (← w .placed) after-slot) (rw (← w .placed) after-other) (λ d h z. let a = w .low in let b = w .high in omega arith) once-here
             (rw (w .listed) at (at .held .chains q (w .low) (w .high))))
         go (inr e) =
             rw (taken-elsewhere lists q c l e)
@@ -135,7 +135,7 @@ module _ {v n : ℕ} {before : List ℕ} {formula : Formula} {cells : List Cell}
             (λ d h. (refl, after-other (linkSlot vars many (nodeOf formula cells l d)) (slot-link l d e h)))
             (at .held .chains l low high))
 
-    out-lists : Lists v n after formula cells (takeOut lists q c)
+    out-lists : Lists linked v n after formula cells (takeOut lists q c)
     out-lists =
         record {
           variables-are = at .variables-are;
@@ -151,20 +151,20 @@ module _ {v n : ℕ} {before : List ℕ} {formula : Formula} {cells : List Cell}
         }
 
   out-walking : {next : Walk} → next .slot ≡ walk .slot → next .node ≡ getD before (linkSlot v n (walk .node)) 0
-      → Walking formula cells (takeOut lists q c) q passed unread next
+      → Walking linked formula cells (takeOut lists q c) q passed unread next
   out-walking {next} slot-is node-is =
-      let on : Walking formula cells lists q (passed ++ (c ∷ [])) unread (record { node = next .node; slot = linkSlot v n (walk .node) }) = walking-on at w refl node-is in
+      let on : Walking linked formula cells lists q (passed ++ (c ∷ [])) unread (record { node = next .node; slot = linkSlot v n (walk .node) }) = walking-on at w refl node-is in
       record {
         low = w .low;
         high = w .high;
         listed = left-list;
         node-is = on .node-is;
-        slot-is = slot-is ∙ w .slot-is;
+        placed = slot-is ∙ w .placed;
       }
 
 -- it takes the clause out
 pub slot-taken-out : {v n : ℕ} {before after : List ℕ} {walk next : Walk} → Standing v n walk → after ≡ unlinkNums v n before (walk .slot) (walk .node)
-    → next .slot ≡ walk .slot → next .node ≡ getD before (linkSlot v n (walk .node)) 0 → TakenOut v n before after walk next
+    → next .slot ≡ walk .slot → next .node ≡ getD before (linkSlot v n (walk .node)) 0 → TakenOut linked v n before after walk next
 slot-taken-out {v} {n} {before} {after} {walk} {next} standing after-is slot-is node-is =
     record {
       only =

@@ -16,7 +16,7 @@ use Rattle.layout.specs.Layout.{requiredLength, nodeOf, firstNode, headSlot, li
 use Rattle.layout.specs.Encodes.{Chain, nodesOf, endSlot}
 use Rattle.layout.proofs.ChainLaws.{node-between, node-positive, end-slot-more, chain-head}
 use Rattle.layout.proofs.HeldLaws.{chain-held}
-use Rattle.engine.specs.Inner.Lists.{listsAt, Lists, Walking, Standing, leftOf}
+use Rattle.engine.specs.Inner.Lists.{listsAt, Lists, Walking, Standing, leftOf, linked}
 use Rattle.engine.specs.declared.lists.Walk.{Walk}
 use Rattle.engine.proofs.lists.LinkLaws.{chain-rest, end-slot-is}
 use Rattle.engine.proofs.lists.FrameLaws.{orderly-within}
@@ -28,28 +28,28 @@ SlotCase formula cells lists q slot =
     ⊎ ((d : ℕ) × (0 < times d (listOf lists q)) × (slot ≡ linkSlot (formula .variables) (length (formula .clauses)) (nodeOf formula cells q d)))
 
 module _ {formula : Formula} {cells : List Cell} {lists : List (List ℕ)} where
-  pub slot-case : {q : ℕ} {passed unread : List ℕ} {walk : Walk} → Walking formula cells lists q passed unread walk
+  pub slot-case : {q : ℕ} {passed unread : List ℕ} {walk : Walk} → Walking linked formula cells lists q passed unread walk
       → SlotCase formula cells lists q (walk .slot)
   slot-case {q} {passed} {unread} {walk} w = go (end-slot-is (formula .variables) (length (formula .clauses)) (nodeOf formula cells q) (headSlot (formula .variables) (length (formula .clauses)) q) passed)
     where
       go : (endSlot (formula .variables) (length (formula .clauses)) (headSlot (formula .variables) (length (formula .clauses)) q) (nodesOf formula cells q passed) ≡ headSlot (formula .variables) (length (formula .clauses)) q)
           ⊎ ((d : ℕ) × (0 < times d passed) × (endSlot (formula .variables) (length (formula .clauses)) (headSlot (formula .variables) (length (formula .clauses)) q) (nodesOf formula cells q passed) ≡ linkSlot (formula .variables) (length (formula .clauses)) (nodeOf formula cells q d)))
           → SlotCase formula cells lists q (walk .slot)
-      go (inl e) = inl (w .slot-is ∙ e)
-      go (inr k) = inr (k .0, rw (w .listed) (let z = k .1 in omega (arith, times-append (k .0) passed unread)), w .slot-is ∙ k .2)
+      go (inl e) = inl (w .placed ∙ e)
+      go (inr k) = inr (k .0, rw (w .listed) (let z = k .1 in omega (arith, times-append (k .0) passed unread)), w .placed ∙ k .2)
 
   -- the clause that a walk stands at
-  pub walking-node : {q c : ℕ} {passed unread : List ℕ} {walk : Walk} → Walking formula cells lists q passed (c ∷ unread) walk
+  pub walking-node : {q c : ℕ} {passed unread : List ℕ} {walk : Walk} → Walking linked formula cells lists q passed (c ∷ unread) walk
       → walk .node ≡ nodeOf formula cells q c
   unfolding firstNode
   walking-node w = w .node-is
 
-  pub walking-listed : {q c : ℕ} {passed unread : List ℕ} {walk : Walk} → Walking formula cells lists q passed (c ∷ unread) walk
+  pub walking-listed : {q c : ℕ} {passed unread : List ℕ} {walk : Walk} → Walking linked formula cells lists q passed (c ∷ unread) walk
       → 0 < times c (listOf lists q)
   walking-listed {q} {c} {passed} {unread} w = rw (w .listed) (omega (arith, times-append c passed (c ∷ unread), times-same c unread))
 
-  module _ {v n : ℕ} {numbers : List ℕ} (at : Lists v n numbers formula cells lists) where
-    pub walking-stands : {q c : ℕ} {passed unread : List ℕ} {walk : Walk} → Walking formula cells lists q passed (c ∷ unread) walk → Standing v n walk
+  module _ {v n : ℕ} {numbers : List ℕ} (at : Lists linked v n numbers formula cells lists) where
+    pub walking-stands : {q c : ℕ} {passed unread : List ℕ} {walk : Walk} → Walking linked formula cells lists q passed (c ∷ unread) walk → Standing v n walk
     walking-stands {q} {c} {passed} {unread} {walk} w =
         let node = walking-node w in
         let bounds = node-between formula cells q c in
@@ -80,15 +80,15 @@ module _ {formula : Formula} {cells : List Cell} {lists : List (List ℕ)} where
             (omega arith, omega arith)
 
     -- what is left of the list is a chain from the slot on
-    walking-chain : {q : ℕ} {passed unread : List ℕ} {walk : Walk} → Walking formula cells lists q passed unread walk
+    walking-chain : {q : ℕ} {passed unread : List ℕ} {walk : Walk} → Walking linked formula cells lists q passed unread walk
         → Chain (formula .variables) (length (formula .clauses)) numbers (walk .slot) (nodesOf formula cells q unread)
     walking-chain {q} {passed} {unread} w =
-        rw (w .slot-is)
+        rw (w .placed)
         (chain-rest (formula .variables) (length (formula .clauses)) numbers (nodeOf formula cells q) (headSlot (formula .variables) (length (formula .clauses)) q) passed unread
         (rw (w .listed) at (at .held .chains q (w .low) (w .high))))
 
     pub walking-begins : {q : ℕ} {walk : Walk} → 2 ≤ q → q ≤ 2 * v + 1 → walk .slot ≡ headSlot v n q → walk .node ≡ getD numbers (headSlot v n q) 0
-        → Walking formula cells lists q [] (listOf lists q) walk
+        → Walking linked formula cells lists q [] (listOf lists q) walk
     walking-begins {q} {walk} low high slot-is node-is =
         let vs = at .variables-are in
         let ns = at .clauses-are in
@@ -101,12 +101,12 @@ module _ {formula : Formula} {cells : List Cell} {lists : List (List ℕ)} where
           node-is =
               node-is ∙ ap (λ (x : ℕ). getD numbers x 0) here
               ∙ chain-head formula cells q (formula .variables) (length (formula .clauses)) numbers (headSlot (formula .variables) (length (formula .clauses)) q) (listOf lists q) (at .held .chains q low top);
-          slot-is = slot-is ∙ here;
+          placed = slot-is ∙ here;
         }
 
-    pub walking-on : {q c : ℕ} {passed unread : List ℕ} {walk next : Walk} → Walking formula cells lists q passed (c ∷ unread) walk
+    pub walking-on : {q c : ℕ} {passed unread : List ℕ} {walk next : Walk} → Walking linked formula cells lists q passed (c ∷ unread) walk
         → next .slot ≡ linkSlot v n (walk .node) → next .node ≡ getD numbers (linkSlot v n (walk .node)) 0
-        → Walking formula cells lists q (passed ++ (c ∷ [])) unread next
+        → Walking linked formula cells lists q (passed ++ (c ∷ [])) unread next
     walking-on {q} {c} {passed} {unread} {walk} {next} w slot-is node-is =
         let vs = at .variables-are in
         let ns = at .clauses-are in
@@ -119,14 +119,14 @@ module _ {formula : Formula} {cells : List Cell} {lists : List (List ℕ)} where
           node-is =
               node-is ∙ ap (λ (x : ℕ). getD numbers x 0) here
               ∙ chain-head formula cells q (formula .variables) (length (formula .clauses)) numbers (linkSlot (formula .variables) (length (formula .clauses)) (nodeOf formula cells q c)) unread (walking-chain w .1);
-          slot-is =
+          placed =
               slot-is ∙ here
               ∙ sym (rw (map-append (nodeOf formula cells q) passed (c ∷ []))
               (end-slot-more (formula .variables) (length (formula .clauses)) (headSlot (formula .variables) (length (formula .clauses)) q) (nodesOf formula cells q passed) (nodeOf formula cells q c)));
         }
 
     -- how many clauses are left
-    pub walking-left : {q : ℕ} {passed : List ℕ} (unread : List ℕ) {walk : Walk} → Walking formula cells lists q passed unread walk
+    pub walking-left : {q : ℕ} {passed : List ℕ} (unread : List ℕ) {walk : Walk} → Walking linked formula cells lists q passed unread walk
         → leftOf v n numbers walk ≡ length unread
     unfolding leftOf
     walking-left {q} {passed} unread {walk} w =
@@ -149,13 +149,13 @@ module _ {formula : Formula} {cells : List Cell} {lists : List (List ℕ)} where
             omega arith
 
   -- a walk that stands at no clause is at the end
-  pub walking-more : {q : ℕ} {passed : List ℕ} (unread : List ℕ) {walk : Walk} → Walking formula cells lists q passed unread walk
+  pub walking-more : {q : ℕ} {passed : List ℕ} (unread : List ℕ) {walk : Walk} → Walking linked formula cells lists q passed unread walk
       → (walk .node ≡ 0 → ⊥) → (c : ℕ) × (rest : List ℕ) × (unread ≡ c ∷ rest)
   unfolding firstNode
   walking-more [] w n = absurd (n (w .node-is))
   walking-more (c ∷ rest) w n = (c, rest, refl)
 
-  pub walking-none : {q : ℕ} {passed : List ℕ} (unread : List ℕ) {walk : Walk} → Walking formula cells lists q passed unread walk
+  pub walking-none : {q : ℕ} {passed : List ℕ} (unread : List ℕ) {walk : Walk} → Walking linked formula cells lists q passed unread walk
       → walk .node ≡ 0 → unread ≡ []
   unfolding firstNode
   walking-none [] w z = refl
@@ -164,7 +164,7 @@ module _ {formula : Formula} {cells : List Cell} {lists : List (List ℕ)} where
   -- the walk is where it was when other lists changed, and when the nodes of its clauses stay
   pub walking-kept : {q : ℕ} {passed unread : List ℕ} {walk : Walk} (after : List Cell) (others : List (List ℕ)) → listOf others q ≡ listOf lists q
       → ((d : ℕ) → 0 < times d (listOf lists q) → nodeOf formula after q d ≡ nodeOf formula cells q d)
-      → Walking formula cells lists q passed unread walk → Walking formula after others q passed unread walk
+      → Walking linked formula cells lists q passed unread walk → Walking linked formula after others q passed unread walk
   unfolding firstNode
   walking-kept {q} {passed} {unread} {walk} after others same-list same w =
       record {
@@ -172,8 +172,8 @@ module _ {formula : Formula} {cells : List Cell} {lists : List (List ℕ)} where
         high = w .high;
         listed = same-list ∙ w .listed;
         node-is = w .node-is ∙ sym (first-kept unread (λ d h. same d (rw (w .listed) (omega (arith, times-append d passed unread)))));
-        slot-is =
-            w .slot-is
+        placed =
+            w .placed
             ∙ ap (endSlot (formula .variables) (length (formula .clauses)) (headSlot (formula .variables) (length (formula .clauses)) q))
             (map-alike (nodeOf formula cells q) (nodeOf formula after q) passed
             (λ d h. sym (same d (rw (w .listed) (omega (arith, times-append d passed unread))))));

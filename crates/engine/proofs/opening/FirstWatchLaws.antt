@@ -28,7 +28,7 @@ use Rattle.layout.specs.Layout.{lengthAt, decisionsAt, conflictAt, backtracksAt
 use Rattle.layout.specs.Encodes.{Encodes}
 use Rattle.layout.proofs.ChainLaws.{node-between, node-first, node-second, node-same}
 use Rattle.engine.specs.Engine.{SameBehind, Becomes}
-use Rattle.engine.specs.Inner.Lists.{Lists, Unlisted, PushedFront}
+use Rattle.engine.specs.Inner.Lists.{Lists, Unlisted, PushedFront, linked}
 use Rattle.engine.specs.Inner.Visit.{watchNums}
 use Rattle.engine.specs.Inner.Opening.{FirstWatches, WatchedFirst}
 use Rattle.engine.proofs.lists.FrameLaws.{lists-held-none, lists-kept}
@@ -128,7 +128,7 @@ module _ (book : List ℕ) (c : ℕ) (well : wellFormed book ≡ true) (inside-b
   sound-is = well-formed-sound book well
 
   -- the lists before
-  first-lists : {numbers : List ℕ} (k : FirstWatches book numbers c) → Lists (variablesOf book) (clausesOf book) numbers formula before-cells (k .lists)
+  first-lists : {numbers : List ℕ} (k : FirstWatches book numbers c) → Lists linked (variablesOf book) (clausesOf book) numbers formula before-cells (k .lists)
   unfolding withWatches
   first-lists k =
       record {
@@ -185,8 +185,8 @@ module _ (book : List ℕ) (c : ℕ) (well : wellFormed book ≡ true) (inside-b
   -- the stores for a clause of two literals or more: the second watch with the pointer (the first watch is 0 already), and the two nodes
   module _ (two : 2 ≤ size (formulaOf book) c) (numbers : List ℕ) {stored once twice : List ℕ}
       (stored-is : stored ≡ watchNums (variablesOf book) (clausesOf book) numbers (2 * c + 2) 1)
-      (first-push : PushedFront (variablesOf book) (clausesOf book) stored once (getD (clauseOf (formulaOf book) c) 0 0) (2 * c + 1))
-      (second-push : PushedFront (variablesOf book) (clausesOf book) once twice (getD (clauseOf (formulaOf book) c) 1 0) (2 * c + 2)) where
+      (first-push : PushedFront linked (variablesOf book) (clausesOf book) stored once (getD (clauseOf (formulaOf book) c) 0 0) (2 * c + 1))
+      (second-push : PushedFront linked (variablesOf book) (clausesOf book) once twice (getD (clauseOf (formulaOf book) c) 1 0) (2 * c + 2)) where
     abbrev a : ℕ
     a = getD (clauseOf formula c) 0 0
 
@@ -231,7 +231,7 @@ module _ (book : List ℕ) (c : ℕ) (well : wellFormed book ≡ true) (inside-b
       first-list : a < length (k .lists)
       first-list = let z = bounds 0 (omega arith) in omega (arith, k .lists-length)
 
-      once-lists : Lists (variablesOf book) (clausesOf book) once formula after-cells one-more
+      once-lists : Lists linked (variablesOf book) (clausesOf book) once formula after-cells one-more
       unfolding withWatches
       once-lists = first-push .lists-are c (set-there .lists-are) two first-node first-free
 
@@ -251,7 +251,7 @@ module _ (book : List ℕ) (c : ℕ) (well : wellFormed book ≡ true) (inside-b
               let f : nodeOf formula after-cells a c ≡ 2 * c + 2 = rw (z .0, z .1) at e in
               omega (arith, first-node)
 
-      twice-lists : Lists (variablesOf book) (clausesOf book) twice formula after-cells two-more
+      twice-lists : Lists linked (variablesOf book) (clausesOf book) twice formula after-cells two-more
       twice-lists = second-push .lists-are c once-lists two second-node second-free
 
       twice-encodes : Encodes formula twice (withWatches after-cells two-more (fresh formula))
@@ -285,8 +285,8 @@ module _ (book : List ℕ) (c : ℕ) (well : wellFormed book ≡ true) (inside-b
 
   pub first-some : (vars many l m : ℕ) (numbers : List ℕ) {stored once twice : List ℕ} → vars ≡ variablesOf book → many ≡ clausesOf book
       → l ≡ getD (clauseAt book c) 0 0 → m ≡ getD (clauseAt book c) 1 0 → 2 ≤ length (clauseAt book c)
-      → stored ≡ watchNums vars many numbers (2 * c + 2) 1 → PushedFront vars many stored once l (2 * c + 1)
-      → PushedFront vars many once twice m (2 * c + 2) → WatchedFirst book numbers twice c
+      → stored ≡ watchNums vars many numbers (2 * c + 2) 1 → PushedFront linked vars many stored once l (2 * c + 1)
+      → PushedFront linked vars many once twice m (2 * c + 2) → WatchedFirst book numbers twice c
   first-some vars many l m numbers vars-is many-is l-is m-is two stored-is first-push second-push =
       let is = clause-of-formula book c inside-book in
       first-stored (rw is two) numbers (rw (vars-is, many-is) at stored-is)

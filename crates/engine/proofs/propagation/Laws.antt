@@ -27,7 +27,7 @@ use Rattle.layout.specs.Layout.{Fits, lengthAt, conflictAt, trailAt}
 use Rattle.layout.proofs.FitsLaws.{held-fits, session-fits}
 use Rattle.layout.specs.Encodes.{Encodes}
 use Rattle.engine.specs.Engine.{Becomes}
-use Rattle.engine.specs.Inner.Lists.{Lists, Walking, Begun, leftOf}
+use Rattle.engine.specs.Inner.Lists.{Lists, Walking, Begun, leftOf, linked}
 use Rattle.engine.specs.Inner.Visit.{Visiting, VisitSays, Visited}
 use Rattle.engine.specs.Inner.Propagation.{Propagating}
 use Rattle.engine.specs.declared.lists.Walk.{Walk}
@@ -80,7 +80,7 @@ pub record ReadingOn (book before numbers : List ℕ) (i : ℕ) (walk : Walk) (f
   pub passed : List ℕ
   pub becomes : Becomes book before numbers run
   pub reading : ReadingList (formulaOf book) i q unread run
-  pub walking : Walking (formulaOf book) (run .cells) (run .lists) q passed unread walk
+  pub walking : Walking linked (formulaOf book) (run .cells) (run .lists) q passed unread walk
   pub rest : readList (formulaOf book) q unread run ≡ readNext (formulaOf book) i first
 
 pub becomes-then : {book before middle after : List ℕ} {run later : Run} → Becomes book before middle run → Becomes book middle after later
@@ -152,13 +152,13 @@ module _ (book : List ℕ) where
       ⊎-elim (λ o. (omega arith, omega arith)) (λ o. (omega arith, omega arith)) (opposite-cases (getD numbers (trailAt + i) 0))
 
   lists-at : {handled q : ℕ} {unread numbers : List ℕ} {run : Run} (vars many : ℕ) → vars ≡ variablesOf book → many ≡ clausesOf book → wellFormed book ≡ true
-      → Encodes formula numbers run → ReadingList formula handled q unread run → Lists vars many numbers formula (run .cells) (run .lists)
+      → Encodes formula numbers run → ReadingList formula handled q unread run → Lists linked vars many numbers formula (run .cells) (run .lists)
   lists-at vars many vars-is many-is w e r =
       lists-of vars many (sym vars-is) (clauses-counted book ∙ sym many-is) (well-formed-sound book w) (r .going .structure .watched) e
 
   -- its list begins to be read
   pub reading-on-begins : {numbers : List ℕ} {i : ℕ} (vars many q : ℕ) (walk : Walk) → vars ≡ variablesOf book → many ≡ clausesOf book
-      → q ≡ opposite (getD numbers (trailAt + i) 0) → Begun vars many numbers q walk → (n : Next book numbers i)
+      → q ≡ opposite (getD numbers (trailAt + i) 0) → Begun linked vars many numbers q walk → (n : Next book numbers i)
       → (unread : List ℕ) × ReadingOn book numbers numbers i walk (n .run) unread
   reading-on-begins {numbers} {i} vars many q walk vars-is many-is q-is begun n = (listOf (n .run .lists) q, go (q-is ∙ ap opposite (next-literal n .0)))
     where

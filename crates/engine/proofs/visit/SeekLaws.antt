@@ -24,7 +24,7 @@ use Rattle.run.specs.Progress.{Watched}
 use Rattle.layout.specs.Layout.{decisionsAt, conflictAt, lengthAt, checksAt, requiredLength, clauseOfNode}
 use Rattle.layout.specs.Encodes.{Encodes}
 use Rattle.engine.specs.Engine.{SameBehind}
-use Rattle.engine.specs.Inner.Lists.{Lists, Walking, Unlisted, KeptOn, TakenOut, PushedFront}
+use Rattle.engine.specs.Inner.Lists.{Lists, Walking, Unlisted, KeptOn, TakenOut, PushedFront, linked}
 use Rattle.engine.specs.Inner.Trail.{SameBeside, assignNums}
 use Rattle.engine.specs.Inner.Scan.{scannedIn}
 use Rattle.engine.specs.Inner.Visit.{Visiting, Visited, countNums, watchNums, Scannable, Seeking}
@@ -129,10 +129,10 @@ module _ {book numbers : List ℕ} {walk : Walk} {other : ℕ} {dead : Bool} (se
         moved-watched formula (well-sound at) (at .run .cells) (at .run .lists) (visited-watched at) q c here position (found-at .0) (found-at .1)
 
     -- the stores in the order of the code, each with the run that is held then
-    module _ {taken stored pushed : List ℕ} {next : Walk} (took : TakenOut (variablesOf book) (clausesOf book) numbers taken walk next)
+    module _ {taken stored pushed : List ℕ} {next : Walk} (took : TakenOut linked (variablesOf book) (clausesOf book) numbers taken walk next)
         (stored-is : stored ≡ watchNums (variablesOf book) (clausesOf book) taken (walk .node) position)
-        (push : PushedFront (variablesOf book) (clausesOf book) stored pushed l (walk .node)) where
-      taken-lists : Lists (variablesOf book) (clausesOf book) taken formula (at .run .cells) out
+        (push : PushedFront linked (variablesOf book) (clausesOf book) stored pushed l (walk .node)) where
+      taken-lists : Lists linked (variablesOf book) (clausesOf book) taken formula (at .run .cells) out
       taken-lists = took .lists-are (visited-lists at) (at .walking)
 
       taken-encodes : Encodes formula taken (withWatches (at .run .cells) out (at .run))
@@ -151,7 +151,7 @@ module _ {book numbers : List ℕ} {walk : Walk} {other : ℕ} {dead : Bool} (se
           (out-same formula (well-sound at) (at .run .cells) (at .run .lists) (visited-watched at) q c here position (found-at .0) (found-at .1))
           taken-lists taken-encodes stored-is
 
-      pushed-lists : Lists (variablesOf book) (clausesOf book) pushed formula cells′ there
+      pushed-lists : Lists linked (variablesOf book) (clausesOf book) pushed formula cells′ there
       unfolding withWatches
       pushed-lists =
           push .lists-are c (set-there .lists-are) (visited-seen at .two)
@@ -170,7 +170,7 @@ module _ {book numbers : List ℕ} {walk : Walk} {other : ℕ} {dead : Bool} (se
       pushed-behind : drop (requiredLength (variablesOf book) (clausesOf book)) pushed ≡ drop (requiredLength (variablesOf book) (clausesOf book)) numbers
       pushed-behind = lists-behind (push .only) ∙ set-there .same-behind ∙ lists-behind (took .only)
 
-      goes-on : Walking formula cells′ there q (at .passed) (at .unread) next
+      goes-on : Walking linked formula cells′ there q (at .passed) (at .unread) next
       goes-on =
           walking-kept cells′ there
           (pushed-elsewhere out l c q
@@ -198,8 +198,8 @@ module _ {book numbers : List ℕ} {walk : Walk} {other : ℕ} {dead : Bool} (se
 
     pub visited-moved : (vars many count literal : ℕ) {taken stored pushed after : List ℕ} (next : Walk) → vars ≡ variablesOf book → many ≡ clausesOf book
         → count ≡ checksAt vars many + clauseOfNode (walk .node) → literal ≡ getD clause position 0
-        → TakenOut vars many numbers taken walk next → stored ≡ watchNums vars many taken (walk .node) position
-        → PushedFront vars many stored pushed literal (walk .node) → after ≡ countNums pushed count made → Visited book numbers after at (v.GoOn next)
+        → TakenOut linked vars many numbers taken walk next → stored ≡ watchNums vars many taken (walk .node) position
+        → PushedFront linked vars many stored pushed literal (walk .node) → after ≡ countNums pushed count made → Visited book numbers after at (v.GoOn next)
     visited-moved vars many count literal {taken} {stored} {pushed} {after} next vars-is many-is count-is literal-is took stored-is push after-is =
         moved-visited (rw (vars-is, many-is) at took) (rw (vars-is, many-is) at stored-is) (rw (vars-is, many-is, literal-is) at push)
         (after-is ∙ ap (λ (x : ℕ). countNums pushed x made) (omega (arith, clause-is at, clauses-counted book)))
@@ -284,7 +284,7 @@ module _ {book numbers : List ℕ} {walk : Walk} {other : ℕ} {dead : Bool} (se
         → count ≡ checksAt vars many + clauseOfNode (walk .node)
         → level ≡ getD (countNums numbers count made) decisionsAt 0
         → after ≡ assignNums vars (countNums numbers count made) other level
-        → KeptOn vars many after walk next
+        → KeptOn linked vars many after walk next
         → Visited book numbers after at (v.GoOn next)
     unfolding performAction counted onTrail
     visited-implied e vars many count level after next vars-is many-is count-is level-is after-is kept =

@@ -29,7 +29,7 @@ use Rattle.layout.specs.declared.values.Value.the-variants.{Open, True, False}
 use Rattle.layout.proofs.ChainLaws.{node-between}
 use Rattle.layout.proofs.ValueLaws.{held-reads}
 use Rattle.engine.specs.Engine.{SameBehind}
-use Rattle.engine.specs.Inner.Lists.{Lists, Standing, KeptOn}
+use Rattle.engine.specs.Inner.Lists.{Lists, Standing, KeptOn, linked}
 use Rattle.engine.specs.Inner.Visit.{Visiting, VisitSays, Visited, otherNode, Seeking}
 use Rattle.engine.specs.declared.lists.Walk.{Walk}
 use Rattle.engine.specs.declared.visit.Visit.{Visit}
@@ -113,7 +113,7 @@ module _ {book numbers : List ℕ} {walk : Walk} (at : Visiting book numbers wal
   pub visited-checks : length (at .run .checks) ≡ length (formulaOf book .clauses)
   visited-checks = at .reading .going .structure .counted .checks-length
 
-  pub visited-lists : Lists (variablesOf book) (clausesOf book) numbers (formulaOf book) (at .run .cells) (at .run .lists)
+  pub visited-lists : Lists linked (variablesOf book) (clausesOf book) numbers (formulaOf book) (at .run .cells) (at .run .lists)
   visited-lists = lists-of (variablesOf book) (clausesOf book) refl (clauses-counted book) well-sound visited-watched (at .encodes)
 
   pub visited-seen : Seen (formulaOf book) (at .q) (at .clause) (at .run)
@@ -208,7 +208,7 @@ module _ {book numbers : List ℕ} {walk : Walk} (at : Visiting book numbers wal
   pub visited-stays : (vars many l : ℕ) (next : Walk) → vars ≡ variablesOf book → many ≡ clausesOf book
       → l ≡ otherWatch (clauseOf (formulaOf book) (at .clause)) (cellOf (at .run) (at .clause)) (at .q)
       → True ≡ valueRead (getD numbers (valueSlot vars l) 0) l
-      → KeptOn vars many numbers walk next → Visited book numbers numbers at (v.GoOn next)
+      → KeptOn linked vars many numbers walk next → Visited book numbers numbers at (v.GoOn next)
   unfolding visit action performAction
   visited-stays vars many l next vars-is many-is l-is r-is kept =
       visited-by numbers (v.GoOn next) (at .run) (rw t) (at .encodes) refl refl

@@ -22,7 +22,7 @@ use Rattle.layout.specs.Layout.{lengthAt, decisionsAt, conflictAt, backtracksAt
 use Rattle.layout.specs.Encodes.{TrailHeld, Encodes}
 use Rattle.layout.proofs.ChainLaws.{watched-within}
 use Rattle.engine.specs.Inner.Trail.{SameBeside, assignNums}
-use Rattle.engine.specs.Inner.Lists.{listsAt, Lists, ListsOnly}
+use Rattle.engine.specs.Inner.Lists.{listsAt, Lists, ListsOnly, linked}
 use Rattle.engine.specs.Inner.Visit.{countNums, watchNums}
 use Rattle.engine.proofs.lists.FrameLaws.{held-outside, lists-kept}
 use Rattle.engine.proofs.trail.Laws.{held-implied, assign-beside}
@@ -127,7 +127,7 @@ lists-behind {v} {n} {before} {after} only =
     (λ i k. getD-drop (requiredLength v n) after i 0 ∙ only .outside (requiredLength v n + i) (inr (omega arith)) ∙ sym (getD-drop (requiredLength v n) before i 0))
 
 pub encodes-lists : {v n : ℕ} {formula : Formula} {before after : List ℕ} {run : Run} (others : List (List ℕ)) → Encodes formula before run
-    → ListsOnly v n before after → Lists v n after formula (run .cells) others → Encodes formula after (withWatches (run .cells) others run)
+    → ListsOnly v n before after → Lists linked v n after formula (run .cells) others → Encodes formula after (withWatches (run .cells) others run)
 unfolding withWatches
 encodes-lists {v} {n} {formula} {before} {after} {run} others e only k =
     let v-is = k .variables-are in
@@ -173,14 +173,14 @@ watch-behind v n numbers node position low high =
 pub record WatchSet (v n : ℕ) (formula : Formula) (before numbers : List ℕ) (after : List Cell) (run : Run) : Type 0 where
   pub same-length : length numbers ≡ length before
   pub same-behind : drop (requiredLength v n) numbers ≡ drop (requiredLength v n) before
-  pub lists-are : Lists v n numbers formula after (run .lists)
+  pub lists-are : Lists linked v n numbers formula after (run .lists)
   pub encodes : Encodes formula numbers (withWatches after (run .lists) run)
 
 module _ {v n c node position : ℕ} {formula : Formula} {numbers : List ℕ} {run : Run} (after : List Cell) (inside : c < n)
     (turned : Turned c node position (cellAt (run .cells) c) (cellAt after c))
     (others : (d : ℕ) → (d ≡ c → ⊥) → cellAt after d ≡ cellAt (run .cells) d)
     (same : (l d : ℕ) → 0 < times d (listOf (run .lists) l) → nodeOf formula after l d ≡ nodeOf formula (run .cells) l d)
-    (k : Lists v n numbers formula (run .cells) (run .lists)) (e : Encodes formula numbers run) where
+    (k : Lists linked v n numbers formula (run .cells) (run .lists)) (e : Encodes formula numbers run) where
   abbrev stores : List ℕ
   stores = watchNums v n numbers node position
 
@@ -207,7 +207,7 @@ module _ {v n c node position : ℕ} {formula : Formula} {numbers : List ℕ} {r
       (getD-set-same (set numbers (watchSlot v node) position) (pointersAt v n + clauseOfNode node) position 0
       (rw (length-set numbers (watchSlot v node) position) (omega (arith, k .long, turned-node turned .1))))
 
-  turned-lists : Lists v n (watchNums v n numbers node position) formula after (run .lists)
+  turned-lists : Lists linked v n (watchNums v n numbers node position) formula after (run .lists)
   turned-lists =
       let b = node-bounds in
       lists-kept after (watch-length v n numbers node position) (λ x low high. stored-other x (λ e. omega arith) (λ e. omega arith)) same k

@@ -24,24 +24,6 @@ pub record Orderly (formula : Formula) (cells : List Cell) (lists : List (List �
   pub apart : (l d m e : ℕ) → 0 < times d (listOf lists l) → 0 < times e (listOf lists m)
       → nodeOf formula cells l d ≡ nodeOf formula cells m e → l ≡ m
 
--- Numbers for v variables and n clauses hold the lists of a formula whose clauses are watched as the cells say.
-pub record Lists (v n : ℕ) (numbers : List ℕ) (formula : Formula) (cells : List Cell) (lists : List (List ℕ)) : Type 0 where
-  pub variables-are : formula .variables ≡ v
-  pub clauses-are : length (formula .clauses) ≡ n
-  pub long : requiredLength v n ≤ length numbers
-  pub many : length lists ≡ 2 * v + 2
-  pub held : ListsHeld formula numbers cells lists
-  pub orderly : Orderly formula cells lists
-
--- The list of q is walked along: `passed` is behind, and `unread` is left.
-pub record Walking (formula : Formula) (cells : List Cell) (lists : List (List ℕ)) (q : ℕ) (passed unread : List ℕ) (walk : Walk) : Type 0 where
-  pub low : 2 ≤ q
-  pub high : q ≤ 2 * formula .variables + 1
-  pub listed : listOf lists q ≡ passed ++ unread
-  pub node-is : walk .node ≡ firstNode formula cells q unread
-  pub slot-is : walk .slot
-      ≡ endSlot (formula .variables) (length (formula .clauses)) (headSlot (formula .variables) (length (formula .clauses)) q) (nodesOf formula cells q passed)
-
 -- a walk stands at a clause; its numbers are in range
 pub record Standing (v n : ℕ) (walk : Walk) : Type 0 where
   pub some : 1 ≤ walk .node
@@ -49,42 +31,74 @@ pub record Standing (v n : ℕ) (walk : Walk) : Type 0 where
   pub slot-low : listsAt v n ≤ walk .slot
   pub slot-within : walk .slot < requiredLength v n
 
--- how many clauses are left
+-- how many clauses are left, by the links
 unfoldable pub leftOf : ℕ → ℕ → List ℕ → Walk → ℕ
 leftOf v n numbers walk = length (chainFrom v n numbers (2 * n) (walk .node))
-
--- a walk at the start of a list; a walk that goes on behind a clause, which stays in the list
-pub record Begun (v n : ℕ) (numbers : List ℕ) (l : ℕ) (walk : Walk) : Type 0 where
-  pub walking : {formula : Formula} {cells : List Cell} {lists : List (List ℕ)} → Lists v n numbers formula cells lists
-      → Walking formula cells lists l [] (listOf lists l) walk
-
-pub record KeptOn (v n : ℕ) (numbers : List ℕ) (walk next : Walk) : Type 0 where
-  pub walking : {formula : Formula} {cells : List Cell} {lists : List (List ℕ)} {q c : ℕ} {passed unread : List ℕ}
-      → Lists v n numbers formula cells lists → Walking formula cells lists q passed (c ∷ unread) walk
-      → Walking formula cells lists q (passed ++ (c ∷ [])) unread next
 
 -- only numbers of the lists changed
 pub record ListsOnly (v n : ℕ) (before after : List ℕ) : Type 0 where
   pub same-length : length after ≡ length before
   pub outside : (x : ℕ) → (x < listsAt v n) ⊎ (requiredLength v n ≤ x) → getD after x 0 ≡ getD before x 0
 
--- the clause that a walk stood at is taken out of its list, and the walk goes on
-pub record TakenOut (v n : ℕ) (before after : List ℕ) (walk next : Walk) : Type 0 where
-  pub only : ListsOnly v n before after
-  pub lists-are : {formula : Formula} {cells : List Cell} {lists : List (List ℕ)} {q c : ℕ} {passed unread : List ℕ}
-      → Lists v n before formula cells lists → Walking formula cells lists q passed (c ∷ unread) walk
-      → Lists v n after formula cells (takeOut lists q c)
-  pub goes-on : {formula : Formula} {cells : List Cell} {lists : List (List ℕ)} {q c : ℕ} {passed unread : List ℕ}
-      → Lists v n before formula cells lists → Walking formula cells lists q passed (c ∷ unread) walk
-      → Walking formula cells (takeOut lists q c) q passed unread next
-
 -- no list has a node
 abbrev pub Unlisted : Formula → List Cell → List (List ℕ) → ℕ → Type 0
 Unlisted formula cells lists node = (l d : ℕ) → 0 < times d (listOf lists l) → nodeOf formula cells l d ≡ node → ⊥
 
--- the clause of a node that no list has goes to the front of a literal's list
-pub record PushedFront (v n : ℕ) (before after : List ℕ) (l node : ℕ) : Type 0 where
-  pub only : ListsOnly v n before after
-  pub lists-are : {formula : Formula} {cells : List Cell} {lists : List (List ℕ)} (c : ℕ) → Lists v n before formula cells lists
-      → 2 ≤ size formula c → nodeOf formula cells l c ≡ node → Unlisted formula cells lists node
-      → Lists v n after formula cells (pushFront lists l c)
+-- A form of lists: how numbers hold them, and where a walk stands behind the clauses that it passed.
+pub record Form : Type 1 where
+  pub Held : Formula → List ℕ → List Cell → List (List ℕ) → Type 0
+  pub Placed : Formula → List Cell → ℕ → List ℕ → Walk → Type 0
+
+-- by heads and links
+abbrev pub linked : Form
+linked =
+    record {
+      Held = ListsHeld;
+      Placed = λ formula cells q passed walk. walk .slot ≡ endSlot (formula .variables) (length (formula .clauses)) (headSlot (formula .variables) (length (formula .clauses)) q) (nodesOf formula cells q passed);
+    }
+
+-- What the operations promise, in any form.
+module _ (form : Form) where
+  -- Numbers for v variables and n clauses hold the lists of a formula whose clauses are watched as the cells say.
+  pub record Lists (v n : ℕ) (numbers : List ℕ) (formula : Formula) (cells : List Cell) (lists : List (List ℕ)) : Type 0 where
+    pub variables-are : formula .variables ≡ v
+    pub clauses-are : length (formula .clauses) ≡ n
+    pub long : requiredLength v n ≤ length numbers
+    pub many : length lists ≡ 2 * v + 2
+    pub held : form .Held formula numbers cells lists
+    pub orderly : Orderly formula cells lists
+
+  -- The list of q is walked along: `passed` is behind, and `unread` is left.
+  pub record Walking (formula : Formula) (cells : List Cell) (lists : List (List ℕ)) (q : ℕ) (passed unread : List ℕ) (walk : Walk) : Type 0 where
+    pub low : 2 ≤ q
+    pub high : q ≤ 2 * formula .variables + 1
+    pub listed : listOf lists q ≡ passed ++ unread
+    pub node-is : walk .node ≡ firstNode formula cells q unread
+    pub placed : form .Placed formula cells q passed walk
+
+  -- a walk at the start of a list; a walk that goes on behind a clause, which stays in the list
+  pub record Begun (v n : ℕ) (numbers : List ℕ) (l : ℕ) (walk : Walk) : Type 0 where
+    pub walking : {formula : Formula} {cells : List Cell} {lists : List (List ℕ)} → Lists v n numbers formula cells lists
+        → Walking formula cells lists l [] (listOf lists l) walk
+
+  pub record KeptOn (v n : ℕ) (numbers : List ℕ) (walk next : Walk) : Type 0 where
+    pub walking : {formula : Formula} {cells : List Cell} {lists : List (List ℕ)} {q c : ℕ} {passed unread : List ℕ}
+        → Lists v n numbers formula cells lists → Walking formula cells lists q passed (c ∷ unread) walk
+        → Walking formula cells lists q (passed ++ (c ∷ [])) unread next
+
+  -- the clause that a walk stood at is taken out of its list, and the walk goes on
+  pub record TakenOut (v n : ℕ) (before after : List ℕ) (walk next : Walk) : Type 0 where
+    pub only : ListsOnly v n before after
+    pub lists-are : {formula : Formula} {cells : List Cell} {lists : List (List ℕ)} {q c : ℕ} {passed unread : List ℕ}
+        → Lists v n before formula cells lists → Walking formula cells lists q passed (c ∷ unread) walk
+        → Lists v n after formula cells (takeOut lists q c)
+    pub goes-on : {formula : Formula} {cells : List Cell} {lists : List (List ℕ)} {q c : ℕ} {passed unread : List ℕ}
+        → Lists v n before formula cells lists → Walking formula cells lists q passed (c ∷ unread) walk
+        → Walking formula cells (takeOut lists q c) q passed unread next
+
+  -- the clause of a node that no list has goes to the front of a literal's list
+  pub record PushedFront (v n : ℕ) (before after : List ℕ) (l node : ℕ) : Type 0 where
+    pub only : ListsOnly v n before after
+    pub lists-are : {formula : Formula} {cells : List Cell} {lists : List (List ℕ)} (c : ℕ) → Lists v n before formula cells lists
+        → 2 ≤ size formula c → nodeOf formula cells l c ≡ node → Unlisted formula cells lists node
+        → Lists v n after formula cells (pushFront lists l c)

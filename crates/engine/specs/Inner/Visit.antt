@@ -15,7 +15,7 @@ use Rattle.run.specs.Progress.{ReadingList}
 use Rattle.layout.specs.Layout.{pointersAt, clauseOfNode, watchSlot}
 use Rattle.layout.specs.Encodes.{Encodes}
 use Rattle.engine.specs.Engine.{SameBehind}
-use Rattle.engine.specs.Inner.Lists.{Walking}
+use Rattle.engine.specs.Inner.Lists.{Walking, linked}
 use Rattle.engine.specs.declared.lists.Walk.{Walk}
 use Rattle.engine.specs.declared.visit.Visit.{Visit}
 use Rattle.engine.specs.declared.visit.Visit.the-variants as v
@@ -31,12 +31,12 @@ pub record Visiting (book numbers : List ℕ) (walk : Walk) : Type 0 where
   pub unread : List ℕ
   pub encodes : Encodes (formulaOf book) numbers run
   pub reading : ReadingList (formulaOf book) handled q (clause ∷ unread) run
-  pub walking : Walking (formulaOf book) (run .cells) (run .lists) q passed (clause ∷ unread) walk
+  pub walking : Walking linked (formulaOf book) (run .cells) (run .lists) q passed (clause ∷ unread) walk
 
 -- the run after the visit is in conflict, or the walk is behind the clause
 abbrev pub VisitSays : Formula → ℕ → List ℕ → Run → Visit → Type 0
 VisitSays formula q unread after (v.GoOn next) =
-    (after .conflict ≡ 0) × ((passed : List ℕ) × Walking formula (after .cells) (after .lists) q passed unread next)
+    (after .conflict ≡ 0) × ((passed : List ℕ) × Walking linked formula (after .cells) (after .lists) q passed unread next)
 VisitSays formula q unread after v.Conflict = inConflict after ≡ true
 
 pub record Visited (book before after : List ℕ) {walk : Walk} (at : Visiting book before walk) (r : Visit) : Type 0 where
