@@ -1,11 +1,13 @@
--- A list whose front part is copied from another list, as a loop that copies meets it.
-use Prim.Native.Nat.{ℕ, suc, _+_, _≤_, _<_}
-use mathlib.Core.Path.{_≡_, refl, ap, sym, _∙_}
-use mathlib.Core.List.{List, _++_}
+-- A list whose front part is copied from another list: as a loop that copies meets it, and the laws of `copied`.
+use Prim.Native.Nat.{ℕ, suc, _+_, _-_, _≤_, _<_}
+use mathlib.Core.Path.{_≡_, refl, ap, ap₂, sym, _∙_}
+use mathlib.Core.List.{List, _++_, append-assoc}
 use native.Mathlib.Numerals.{add-one}
 use native.Mathlib.Omega.{arith}
-use lib.ListN.{length, getD, take, drop, set, length-drop, length-append}
-use lib.Seq.{drop-cons, set-at, append-snoc, take-suc, length-take-le}
+use lib.ListN.{length, getD, take, drop, set, length-take, length-drop, length-append, drop-of-length-le}
+use lib.Seq.{drop-cons, set-at, append-snoc, take-suc, length-take-le, take-all, take-at, drop-at, drop-drop}
+use Rattle.base.specs.Lists.{copied}
+use Rattle.base.proofs.Lists.{take-both}
 
 -- the first i numbers are the source's, the rest is as it was
 pub record Copied (source before now : List ℕ) (i : ℕ) : Type 0 where
@@ -31,3 +33,63 @@ module _ (source before now : List ℕ) (i : ℕ) (c : Copied source before now 
             rw (c .is, add-one i, drop-cons before i 0 k, set-at (take i source) (getD before i 0) (drop (suc i) before) (getD source i 0) i (length-take-le i source (c .in-source)), take-suc source i 0 h)
             (sym (append-snoc (take i source) (getD source i 0) (drop (suc i) before)));
       }
+
+  -- a loop that ends with the source, and one that ends with the room
+  pub copied-all : length source ≤ i → now ≡ copied source before
+  unfolding copied
+  copied-all h =
+      let is-all : i ≡ length source = omega (arith, c .in-source) in
+      c .is
+      ∙ ap₂ (λ (x y : List ℕ). x ++ y)
+      (take-all i source h ∙ sym (take-all (length before) source (omega (arith, c .in-target))))
+      (ap (λ (k : ℕ). drop k before) is-all)
+
+  pub copied-full : length before ≤ i → now ≡ copied source before
+  unfolding copied
+  copied-full h =
+      let is-full : i ≡ length before = omega (arith, c .in-target) in
+      let over : length before ≤ length source = omega (arith, c .in-source) in
+      c .is
+      ∙ ap₂ (λ (x y : List ℕ). x ++ y)
+      (ap (λ (k : ℕ). take k source) is-full)
+      (drop-of-length-le before h ∙ sym (drop-of-length-le before over))
+
+  -- and how many numbers it copied
+  pub count-all : length source ≤ i → i ≡ length (take (length before) source)
+  count-all h = rw (take-all (length before) source (omega (arith, c .in-source, c .in-target))) (omega (arith, c .in-source))
+
+  pub count-full : length before ≤ i → i ≡ length (take (length before) source)
+  count-full h = rw (length-take (length before) source) (omega (arith, c .in-source, c .in-target))
+
+-- what is copied, and what lies behind it
+module _ (source buffer : List ℕ) where
+  pub length-copy : length (copied source buffer) ≡ length buffer
+  unfolding copied
+  length-copy =
+      length-append (take (length buffer) source) (drop (length source) buffer)
+      ∙ rw (length-take (length buffer) source, length-drop (length source) buffer) (omega arith)
+
+  pub take-copy : take (length (take (length buffer) source)) (copied source buffer) ≡ take (length buffer) source
+  unfolding copied
+  take-copy = take-at (take (length buffer) source) (drop (length source) buffer) (length (take (length buffer) source)) refl
+
+  pub drop-copy : drop (length (take (length buffer) source)) (copied source buffer) ≡ drop (length source) buffer
+  unfolding copied
+  drop-copy = drop-at (take (length buffer) source) (drop (length source) buffer) (length (take (length buffer) source)) refl
+
+  -- more is copied behind it
+  module _ (more : List ℕ) where
+    abbrev end : ℕ
+    end = length (take (length buffer) source)
+
+    pub copy-behind : take end (copied source buffer) ++ copied more (drop end (copied source buffer)) ≡ copied (source ++ more) buffer
+    unfolding copied
+    copy-behind =
+        ap₂ (λ (x y : List ℕ). x ++ copied more y) take-copy drop-copy
+        ∙ rw (length-drop (length source) buffer, drop-drop (length more) (length source) buffer, take-both (length buffer) source more, length-append source more)
+        (sym (append-assoc (take (length buffer) source) (take (length buffer - length source) more) (drop (length source + length more) buffer)))
+
+    pub count-behind : end + length (take (length (drop end (copied source buffer))) more) ≡ length (take (length buffer) (source ++ more))
+    count-behind =
+        rw (drop-copy, length-drop (length source) buffer, take-both (length buffer) source more)
+        (sym (length-append (take (length buffer) source) _))

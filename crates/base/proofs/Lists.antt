@@ -9,7 +9,7 @@ use mathlib.Core.Path.{_≡_, refl, sym, ap, _∙_}
 use borrow.Author.Tests.{eqb-true, eqb-false, eq-eqb, ne-eqb, ltb-true, ltb-false}
 use lib.Dec.{eqb, ltb}
 use lib.ListN.{length, getD, take, drop, set, replicate, length-append, length-drop, drop-of-length-le}
-use lib.Seq.{take-add, take-nil, drop-cons, drop-drop, length-take-le, getD-set-same, getD-set-other, set-out}
+use lib.Seq.{take-add, take-all, take-nil, drop-cons, drop-drop, length-take-le, getD-set-same, getD-set-other, set-out}
 use Rattle.base.specs.Lists.{all, flat, empty, begins}
 use Rattle.base.proofs.Bools.{and-parts}
 
@@ -55,6 +55,23 @@ module _ {A : Type 0} where
       let whole : u - s ≡ (t - s) + (u - t) = omega arith in
       let middle : s + (t - s) ≡ t = omega arith in
       rw (whole, take-add (t - s) (u - t) (drop s l), drop-drop (t - s) s l, middle)
+
+  -- the first n of two lists, one after the other
+  pub take-both : (n : ℕ) (xs ys : List A) → take n (xs ++ ys) ≡ take n xs ++ take (n - length xs) ys
+  take-both n [] ys = rw (take-nil {A = A} n, sub-zero n)
+  take-both zero (x ∷ xs) ys =
+      let none : 0 - length (x ∷ xs) ≡ 0 = omega arith in
+      rw none
+  take-both (suc n) (x ∷ xs) ys = rw (suc-sub-suc n (length xs)) (ap (λ (l : List A). x ∷ l) (take-both n xs ys))
+
+  -- the part from a place up to the end is all that follows, and behind it is nothing
+  pub tail-whole : (at : ℕ) (xs : List A) → part at (length xs) xs ≡ drop at xs
+  tail-whole at xs = take-all (length xs - at) (drop at xs) (rw (length-drop at xs) (omega arith))
+
+  pub tail-back : (at : ℕ) (xs ys : List A) → take at xs ++ (ys ++ drop (length xs - at) (drop at xs)) ≡ take at xs ++ ys
+  tail-back at xs ys =
+      let none : drop (length xs - at) (drop at xs) ≡ [] = drop-of-length-le (drop at xs) {i = length xs - at} (rw (length-drop at xs) (omega arith)) in
+      rw none (ap (λ (l : List A). take at xs ++ l) (append-nil ys))
 
   -- a test that holds of all holds at each place
   pub all-at : (p : A → Bool) (xs : List A) (d : A) → all p xs ≡ true → (i : ℕ) → i < length xs → p (getD xs i d) ≡ true

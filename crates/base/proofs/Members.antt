@@ -10,7 +10,7 @@ use borrow.Author.Tests.{eqb-true, eqb-false, eq-eqb, ne-eqb, not-true}
 use lib.Dec.{eqb}
 use lib.ListN.{length, getD}
 use Rattle.base.specs.Lists.{keep, member, distinct, times}
-use Rattle.base.proofs.Bools.{either, neither-left, neither-right, never, eqb-sym, and-parts}
+use Rattle.base.proofs.Bools.{either, neither-left, neither-right, never, refuted, eqb-sym, and-parts}
 
 -- what stands in two lists, one after the other, stands in one of them
 pub member-append : (x : ℕ) (xs ys : List ℕ) → member x (xs ++ ys) ≡ (member x xs || member x ys)
@@ -88,6 +88,20 @@ distinct-positions (x ∷ xs) zero (suc j) d h k e = absurd (fresh-head x xs j d
 distinct-positions (x ∷ xs) (suc i) zero d h k e = absurd (fresh-head x xs i d (le-of-suc-le-suc h) (sym e))
 distinct-positions (x ∷ xs) (suc i) (suc j) d h k e =
     ap suc (distinct-positions xs i j (and-parts (not (member x xs)) (distinct xs) d .1) (le-of-suc-le-suc h) (le-of-suc-le-suc k) e)
+
+-- and a list in which each has one position repeats none
+pub positions-distinct : (xs : List ℕ) → ((i j : ℕ) → i < length xs → j < length xs → getD xs i 0 ≡ getD xs j 0 → i ≡ j) → distinct xs ≡ true
+unfolding distinct
+positions-distinct [] apart = refl
+positions-distinct (x ∷ xs) apart =
+    rw (refuted (member x xs) here)
+    (positions-distinct xs (λ i j h k e. let same : suc i ≡ suc j = apart (suc i) (suc j) (omega arith) (omega arith) e in omega arith))
+  where
+    here : member x xs ≡ true → ⊥
+    here m =
+        let at = position x xs m in
+        let same : 0 ≡ suc (at .0) = apart 0 (suc (at .0)) (omega arith) (omega arith) (sym (at .2)) in
+        omega arith
 
 -- counting: what stands in the list counts, what does not counts nothing
 pub times-same : (x : ℕ) (xs : List ℕ) → times x (x ∷ xs) ≡ suc (times x xs)

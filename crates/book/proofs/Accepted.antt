@@ -1,4 +1,4 @@
--- A formula that reading a text accepts is within document 01's limits, and its book numbers are well formed.
+-- A formula that reading a text accepts is within document 01's limits, its book numbers are well formed, and 7,504 numbers hold them.
 use Prim.Native.Nat.{ℕ, _+_, _*_, _≤_}
 use native.Mathlib.Omega.{arith}
 use mathlib.Core.Path.{_≡_, refl, sym, _∙_}
@@ -11,14 +11,17 @@ use Rattle.base.specs.Lists.{all, flat, empty, member, distinct}
 use Rattle.base.proofs.Bools.{neither-left, neither-right, and-parts}
 use Rattle.base.proofs.Lists.{all-both, flat-more}
 use Rattle.base.proofs.Members.{distinct-more}
-use Rattle.book.specs.Formula.{Formula, variableOf, positive, negative, maxVariables, maxClauses, maxLiterals, maxClause, literalWithin, soundClause, sound}
+use Rattle.book.specs.Formula.{Formula, literals, maxBook, variableOf, positive, negative, maxVariables, maxClauses, maxLiterals, maxClause, literalWithin, soundClause, sound}
 use Rattle.book.specs.Numbers.{numbersOf, wellFormed}
 use Rattle.book.specs.Text.{Piece, Token, literal, close, invalid, decimal, unsigned, unsignedToken, negativeToken, tokenOf, linesOf, Header, header, malformed, headerOf}
 use Rattle.book.specs.Faults.{outside, bodyOf}
 use Rattle.book.specs.Reading.{maxText, Judged, refused, accepted, readText}
+use Rattle.book.specs.Answer.{readAnswer}
+use Rattle.book.specs.declared.Reading.the-variants.{Book}
 use Rattle.book.specs.Inner.Walk.{walk, tokensOf, walkUnder, walkLines}
 use Rattle.book.proofs.ReadIsWalk.{read-is-walk}
-use Rattle.book.proofs.NumberLaws.{numbers-well-formed}
+use Rattle.book.proofs.NumberLaws.{numbers-well-formed, book-fits}
+use Rattle.book.proofs.ReadLaws.{answer-book}
 use Rattle.book.proofs.SoundLaws.{literal-whole, clause-whole, clauses-decide-sound}
 
 -- a token of a word: its literal has a variable
@@ -193,3 +196,9 @@ accepted-sound text formula h = lines-sound (linesOf text) formula (sym (read-is
 pub accepted-well-formed : (text : List ℕ) (formula : Formula) (rest : List ℕ) → readText text ≡ accepted formula
     → wellFormed (numbersOf formula ++ rest) ≡ true
 accepted-well-formed text formula rest h = numbers-well-formed formula rest (accepted-sound text formula h)
+
+-- Where 7,504 numbers are lent, a text that is accepted is answered as a book: 10 is given only where fewer are lent.
+pub accepted-answered : (text : List ℕ) (formula : Formula) (buffer : List ℕ) → readText text ≡ accepted formula → maxBook ≤ length buffer
+    → readAnswer (readText text) (length buffer) ≡ Book (formula .variables) (length (formula .clauses)) (length (literals formula))
+accepted-answered text formula buffer h room =
+    sym (answer-book (readText text) formula h buffer (omega (arith, book-fits formula (accepted-sound text formula h))) .0)

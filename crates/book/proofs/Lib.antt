@@ -7,6 +7,7 @@ pub mod LeastFault
 pub mod NumberLaws
 pub mod PartLaws
 pub mod PrintRead
+pub mod PrintedText
 pub mod ReadIsWalk
 pub mod ReadLaws
 pub mod SoundLaws

@@ -9,8 +9,9 @@ use lib.ListN.{length, getD, take, drop, length-append}
 use lib.Seq.{take-append-seam, drop-append-seam, drop-drop, drop-at, getD-drop}
 use Rattle.base.specs.Lists.{flat}
 use Rattle.base.proofs.Bools.{and-last}
-use Rattle.book.specs.Formula.{Formula, literals, sound}
+use Rattle.book.specs.Formula.{Formula, literals, maxBook, sound}
 use Rattle.book.specs.Numbers.{starts, numbersOf, clausesOf, startOf, clauseAt, clausesFrom, formulaOf, rising, wellFormed}
+use Rattle.book.proofs.SoundLaws.{formula-parts}
 
 length-starts : (from : ℕ) (clauses : List (List ℕ)) → length (starts from clauses) ≡ suc (length clauses)
 unfolding starts
@@ -21,6 +22,10 @@ pub length-numbers : (formula : Formula) → length (numbersOf formula) ≡ leng
 unfolding numbersOf
 length-numbers formula =
     omega (arith, length-append (starts 0 (formula .clauses)) (literals formula), length-starts 0 (formula .clauses))
+
+-- the largest book has room for the numbers of every formula within the limits
+pub book-fits : (formula : Formula) → sound formula ≡ true → length (numbersOf formula) ≤ maxBook
+book-fits formula h = let p = formula-parts formula h in omega (arith, length-numbers formula)
 
 -- the first of the starts, and the last
 starts-first : (from : ℕ) (clauses : List (List ℕ)) (more : List ℕ) → getD (starts from clauses ++ more) 0 0 ≡ from

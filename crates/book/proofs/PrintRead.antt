@@ -1,4 +1,4 @@
--- A printed formula is read back as it was.
+-- A printed formula is read back as it was, so every formula within the limits has a text that is accepted.
 use Prim.Native.Nat.{ℕ, suc, _+_, _/_, _%_, _≤_, _<_}
 use native.Mathlib.Omega.{arith}
 use mathlib.Core.Path.{_≡_, refl, ap, _∙_}
@@ -12,18 +12,22 @@ use Rattle.base.specs.Lists.{all, flat, same, begins, until}
 use Rattle.base.proofs.Bools.{and-parts}
 use Rattle.base.proofs.Lists.{all-imply}
 use Rattle.base.proofs.Until.{until-more, until-stop}
-use Rattle.book.specs.Formula.{Formula, maxVariables, literalWithin, soundClause, sound}
+use Rattle.book.specs.Formula.{Formula, literals, maxVariables, maxBook, literalWithin, soundClause, sound}
 use Rattle.book.specs.Text.{Piece, Token, literal, blank, lineEnd, decimal, unsigned, isDigit, unsignedToken, negativeToken, tokenOf, header, headed, headerIn, headerOf}
 use Rattle.book.specs.Reading.{maxText, accepted, readText}
+use Rattle.book.specs.Answer.{readAnswer}
+use Rattle.book.specs.declared.Reading.the-variants.{Book}
 use Rattle.book.specs.Printer.{printNumber, printLiteral, printClause, printText}
 use Rattle.book.specs.Inner.Walk.{tokensOf, walkUnder, walkStart}
 use Rattle.book.specs.Inner.Words.{wordsLine, wordsBehind, wordsHere, wordsStart}
 use Rattle.book.proofs.WordLaws.{line-word, line-blank, line-end, word-not-end, behind-byte, behind-end, start-plain, start-none, walk-behind, walk-lines, header-line}
 use Rattle.book.proofs.ReadIsWalk.{read-is-walk}
+use Rattle.book.proofs.Accepted.{accepted-answered}
 use Rattle.book.proofs.SoundLaws.{literal-parts, clause-parts, FormulaParts, formula-parts}
 use Rattle.book.proofs.WalkAccepts.{clauseTokens, tokensFor, clauses-walk}
 use Rattle.book.proofs.parse.Laws.{within-limits}
 use Rattle.book.proofs.DecimalLaws.{token-plain}
+use Rattle.book.proofs.PrintedText.{printed-within}
 use Rattle.book.proofs.Digits.{number-printed, printed-unsigned, digit-not-blank, digits-begin}
 
 -- a word: bytes that are no blanks, and at least one
@@ -275,9 +279,16 @@ module _ (formula : Formula) (p : FormulaParts formula) where
       )
       (clauses-walk (formula .variables) (length (formula .clauses)) [] (formula .clauses) (omega arith) (p .sound-clauses) (omega arith))
 
--- printing and reading give the formula back
-pub print-read : (formula : Formula) → sound formula ≡ true → length (printText formula) ≤ maxText
-    → readText (printText formula) ≡ accepted formula
-print-read formula h short =
+-- Every formula within the limits has a text that is accepted as that formula.
+pub print-read : (formula : Formula) → sound formula ≡ true → readText (printText formula) ≡ accepted formula
+print-read formula h =
+    let short : length (printText formula) ≤ maxText = omega (arith, printed-within formula h) in
     read-is-walk (printText formula) (le-ltb maxText (length (printText formula)) short) ∙ walk-lines (printText formula)
     ∙ walk-printed formula (formula-parts formula h)
+
+-- So a reader that refuses every book breaks its promise: where 7,504 numbers are lent, every formula within the limits has a text that is
+-- answered as a book.
+pub printed-answered : (formula : Formula) (buffer : List ℕ) → sound formula ≡ true → maxBook ≤ length buffer
+    → readAnswer (readText (printText formula)) (length buffer)
+    ≡ Book (formula .variables) (length (formula .clauses)) (length (literals formula))
+printed-answered formula buffer h room = accepted-answered (printText formula) formula buffer (print-read formula h) room

@@ -48,8 +48,9 @@ module _ {text numbers : List ℕ} {variables clauses total : ℕ} (r : Read tex
   pub read-short : length buffer < clauses + total + 4 → ReadAnswered (readText text) buffer (Refused 10) buffer
   read-short h = answer-short (readText text) (r .formula) is-read buffer (omega (arith, length-read))
 
-  pub read-book : clauses + total + 4 ≤ length buffer
-      → ReadAnswered (readText text) buffer (Book variables clauses total) (take (clauses + total + 4) numbers ++ drop (clauses + total + 4) buffer)
-  read-book h =
-      rw (r .front, ← length-read, ← (r .same-variables), ← (r .same-clauses), ← (r .same-literals))
+  -- the first n numbers are copied, as many as the book has
+  pub read-book : (n : ℕ) {after : List ℕ} → after ≡ take n numbers ++ drop n buffer → n ≡ clauses + total + 4 → n ≤ length buffer
+      → ReadAnswered (readText text) buffer (Book variables clauses total) after
+  read-book n copied e h =
+      rw (copied, e, r .front, ← length-read, ← (r .same-variables), ← (r .same-clauses), ← (r .same-literals))
       (answer-book (readText text) (r .formula) is-read buffer (omega (arith, length-read)))

@@ -4,7 +4,7 @@ ghost use Rattle.base.specs.Lists.{all};
 ghost use Rattle.book.specs.Inner.Form.{Parted};
 ghost use Rattle.book.specs.Formula.{maxVariables, maxClauses, soundClause};
 ghost use Rattle.book.specs.Inner.Marks.{Bounded, Marked};
-ghost use Rattle.book.specs.Numbers.{variablesOf, clausesOf, literalsOf, clauseStart, clausesFrom, rising, wellFormed};
+ghost use Rattle.book.specs.Numbers.{variablesOf, clausesOf, literalsOf, clausesFrom, rising, wellFormed};
 ghost use lib.ListN.{length, getD};
 ghost use mathlib.Core.List.{[]};
 ghost use mathlib.Core.Path.{_≡_};
@@ -52,17 +52,6 @@ pub fn literals(book: &[u32]) -> usize
     ensures { λ r. ⌜ r ≡ literalsOf (now (book .entry)) ⌝ }
 {
     number_at(book, 2)
-}
-
-// The place at which clause c, from 0, begins; it ends where clause c + 1 begins.
-pub fn clause_start(book: &[u32], c: usize) -> usize
-    ensures { λ r. ⌜ r ≡ clauseStart (now (book .entry)) c ⌝ }
-{
-    let literals = number_at(book, 1) + 4;
-    if c < book.len() {
-        return literals + number_at(book, 3 + c);
-    }
-    literals
 }
 
 // None of the starts is above the next one.

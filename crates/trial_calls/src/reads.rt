@@ -3,7 +3,7 @@ use crate::answers;
 use book::limits::MAX_VARIABLES;
 use trials::messages;
 use trials::names;
-use trials::readings::clause;
+use trials::readings::sizes;
 use trials::rows::wide;
 use trials::space::LENT;
 
@@ -39,7 +39,7 @@ pub(crate) fn read(book: &[u32], session: &[u32], step: usize, a: u32, b: u32) -
         names::EACH => copy_to(book, session, step, 0, wide(a)),
         names::TRAIL => copy_to(book, session, step, a, wide(b)),
         names::FORM => answers::form(book::well_formed(book)),
-        names::CLAUSE => clause(book, a),
+        names::SIZES => sizes(book),
         _ => {
             messages::print(messages::NO_NAME);
             0

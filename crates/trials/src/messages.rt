@@ -34,49 +34,45 @@ pub const CLAUSES: u32 = 13;
 
 pub const LITERALS: u32 = 14;
 
-pub const FROM: u32 = 15;
+pub const WELL_FORMED: u32 = 15;
 
-pub const TO: u32 = 16;
+pub const OPENING: u32 = 16;
 
-pub const WELL_FORMED: u32 = 17;
+pub const DECISION: u32 = 17;
 
-pub const OPENING: u32 = 18;
+pub const IMPLIED: u32 = 18;
 
-pub const DECISION: u32 = 19;
+pub const COLON: u32 = 19;
 
-pub const IMPLIED: u32 = 20;
+pub const CONFLICT: u32 = 20;
 
-pub const COLON: u32 = 21;
+pub const BACKTRACK: u32 = 21;
 
-pub const CONFLICT: u32 = 22;
+pub const VARIABLE: u32 = 22;
 
-pub const BACKTRACK: u32 = 23;
+pub const OPEN: u32 = 23;
 
-pub const VARIABLE: u32 = 24;
+pub const POSITIVE: u32 = 24;
 
-pub const OPEN: u32 = 25;
+pub const NEGATIVE: u32 = 25;
 
-pub const POSITIVE: u32 = 26;
+pub const TOTAL: u32 = 26;
 
-pub const NEGATIVE: u32 = 27;
+pub const DECISIONS: u32 = 27;
 
-pub const TOTAL: u32 = 28;
+pub const BACKTRACKS: u32 = 28;
 
-pub const DECISIONS: u32 = 29;
+pub const TRAIL: u32 = 29;
 
-pub const BACKTRACKS: u32 = 30;
+pub const REQUIRED: u32 = 30;
 
-pub const TRAIL: u32 = 31;
+pub const CHECKS: u32 = 31;
 
-pub const REQUIRED: u32 = 32;
+pub const COPIED: u32 = 32;
 
-pub const CHECKS: u32 = 33;
+pub const BLANK: u32 = 33;
 
-pub const COPIED: u32 = 34;
-
-pub const BLANK: u32 = 35;
-
-pub const MINUS: u32 = 36;
+pub const MINUS: u32 = 34;
 
 // Part k of the bytes, parted by `|`.
 pub fn print_part(bytes: &[u8], k: u32) {
@@ -90,7 +86,7 @@ pub fn print_part(bytes: &[u8], k: u32) {
 pub fn print(word: u32) {
     print_part(
         b"\n|: | / |, too long|, no such name|, no such place|, lent numbers changed|, out of form|, lent numbers untouched|\
-        , the rest untouched|, numbers|refused |V | C | L |, places | to |well formed|open|choose | forced |:| rule |back |\
+        , the rest untouched|, numbers|refused |V | C | L |well formed|open|choose | forced |:| rule |back |\
         feature | open| wanted| barred|checks |choices | backs | trail |need |rules |literals | |-",
         word,
     );

@@ -48,7 +48,7 @@ pub const EACH: usize = 21;
 
 pub const FORM: usize = 22;
 
-pub const CLAUSE: usize = 23;
+pub const SIZES: usize = 23;
 
 // The parts of a session in their order, and what is behind the last.
 pub const HEADER: usize = 24;
@@ -93,7 +93,7 @@ pub fn name(row: &[u8], byte: u8, k: u32) -> usize {
     let to = span.to;
     place_among(
         b"text room session based base numbers write give short spare begin open choose back many play line lookup figures sum \
-        need each form clause header trail levels values watches pointers checks heads links",
+        need each form sizes header trail levels values watches pointers checks heads links",
         &row[from..to],
     )
 }

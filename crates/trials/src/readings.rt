@@ -121,12 +121,10 @@ pub fn damage_field(book: &mut [u32], row: &[u8], place: u32, next: u32) {
     }
 }
 
-// V, C and L of a book, and the places at which a clause begins and ends.
-pub fn clause(book: &[u32], c: u32) -> u32 {
+// V, C and L of a book.
+pub fn sizes(book: &[u32]) -> u32 {
     say_wide(messages::VARIABLES, book::variables(book));
     say_wide(messages::CLAUSES, book::clauses(book));
     say_wide(messages::LITERALS, book::literals(book));
-    say_wide(messages::FROM, book::clause_start(book, wide(c)));
-    say_wide(messages::TO, book::clause_start(book, wide(c) + 1));
     0
 }

@@ -1,6 +1,7 @@
 -- The state of the reader's loop over the clauses, and what each token makes of it.
 use Prim.Native.Nat.{ℕ, _+_, _-_, _≤_, _<_}
 use mathlib.Core.Path.{_≡_, refl, ap, sym, _∙_, subst}
+use mathlib.Core.Logic.{⊎-elim}
 use mathlib.Core.Bool.{Bool, true, false, _&&_}
 use mathlib.Core.List.{List, [], _∷_, _++_, map, map-append}
 use native.Mathlib.Omega.{arith}
@@ -11,11 +12,13 @@ use Rattle.base.specs.Lists.{flat, member}
 use Rattle.base.proofs.Lists.{length-more, flat-more}
 use Rattle.book.specs.Formula.{variableOf, maxLiterals, maxBook, maxClauses, maxVariables}
 use Rattle.book.specs.Text.{Token, literal, close, invalid}
-use Rattle.book.specs.Reading.{refused, accepted}
+use Rattle.book.specs.Reading.{refused}
 use Rattle.book.specs.Inner.Walk.{walk}
-use Rattle.book.specs.Inner.Cursor.{tokensHere, NextWord}
+use Rattle.book.specs.Inner.Cursor.{tokensHere, NextWord, NoWord}
 use Rattle.book.specs.Inner.Marks.{Marked, variableMarks}
-use Rattle.book.specs.Inner.Body.{Written, literalFault}
+use Rattle.book.specs.Inner.Body.{Written, literalFault, EndSays, BodySays}
+use Rattle.book.specs.declared.body.Body.{Body}
+use Rattle.book.specs.declared.body.Body.the-variants as b
 use Rattle.book.proofs.marks.Laws.{bounded-fresh, marked-none, marked-test, marked-more}
 use Rattle.book.proofs.body.Laws.{faultHere, fault-over, walk-invalid, walk-short, walk-close, walk-fault, walk-literal, literal-taken, walk-open, walk-few, walk-all, written-none, written-literal, written-close}
 
@@ -66,14 +69,14 @@ module _ {text : List ℕ} {start variables clauses : ℕ} {numbers marks : List
       → walk variables clauses [] [] (tokensHere text start) ≡ walk variables clauses (g .done) (g .current) tokens
   here tokens e = sym (g .same-walk) ∙ ap (walk variables clauses (g .done) (g .current)) e
 
-  pub so-far-invalid : (rest : List Token) → tokensHere text at ≡ invalid ∷ rest → walk variables clauses [] [] (tokensHere text start) ≡ refused 4
-  so-far-invalid rest e = here (invalid ∷ rest) e ∙ walk-invalid variables clauses (g .done) (g .current) rest
+  pub so-far-invalid : (next : ℕ) → NextWord text at invalid next → walk variables clauses [] [] (tokensHere text start) ≡ refused 4
+  so-far-invalid next w = here (invalid ∷ tokensHere text next) (w .tokens) ∙ walk-invalid variables clauses (g .done) (g .current) (tokensHere text next)
 
-  pub so-far-open : tokensHere text at ≡ [] → (first ≡ total → ⊥) → walk variables clauses [] [] (tokensHere text start) ≡ refused 8
-  so-far-open e n = here [] e ∙ walk-open variables clauses (g .done) (g .current) (λ z. n (omega (arith, opened-is, g .first-is, g .total-is)))
+  so-far-open : (next : ℕ) → NoWord text at next → (first ≡ total → ⊥) → walk variables clauses [] [] (tokensHere text start) ≡ refused 8
+  so-far-open next w n = here [] (w .tokens) ∙ walk-open variables clauses (g .done) (g .current) (λ z. n (omega (arith, opened-is, g .first-is, g .total-is)))
 
-  pub so-far-few : tokensHere text at ≡ [] → (closed ≡ clauses → ⊥) → walk variables clauses [] [] (tokensHere text start) ≡ refused 8
-  so-far-few e n = here [] e ∙ walk-few variables clauses (g .done) (g .current) (λ z. n (sym (g .closed-is) ∙ z))
+  so-far-few : (next : ℕ) → NoWord text at next → (closed ≡ clauses → ⊥) → walk variables clauses [] [] (tokensHere text start) ≡ refused 8
+  so-far-few next w n = here [] (w .tokens) ∙ walk-few variables clauses (g .done) (g .current) (λ z. n (sym (g .closed-is) ∙ z))
 
   pub so-far-short : (next : ℕ) → NextWord text at close next → first ≡ total → walk variables clauses [] [] (tokensHere text start) ≡ refused 6
   so-far-short next w e =
@@ -86,21 +89,21 @@ module _ {text : List ℕ} {start variables clauses : ℕ} {numbers marks : List
       none [] z = refl
       none (x ∷ xs) z = absurd (omega arith)
 
-  pub so-far-all : tokensHere text at ≡ [] → first ≡ total → closed ≡ clauses
-      → (done : List (List ℕ))
-      × (walk variables clauses [] [] (tokensHere text start) ≡ accepted (record { variables = variables; clauses = done }))
-      × (length done ≡ clauses)
-      × (length (flat done) ≡ total)
-      × (total ≤ maxLiterals)
-      × Written numbers clauses done []
-  so-far-all e h k = (
+  so-far-all : (next : ℕ) → NoWord text at next → (literals : ℕ) → first ≡ total → closed ≡ clauses → total ≡ literals
+      → BodySays text start variables clauses numbers (b.Read literals)
+  so-far-all next w literals h k e = (
     g .done,
-    here [] e ∙ walk-all variables clauses (g .done) (g .current) (omega (arith, opened-is)) (g .closed-is ∙ k),
+    here [] (w .tokens) ∙ walk-all variables clauses (g .done) (g .current) (omega (arith, opened-is)) (g .closed-is ∙ k),
     g .closed-is ∙ k,
-    g .first-is ∙ h,
-    g .total-within,
+    g .first-is ∙ h ∙ e,
+    omega (arith, g .total-within),
     rw (nothing-open h) at (g .written),
   )
+
+  -- what is said where the text ends, it says of the text
+  pub so-far-end : (next : ℕ) → NoWord text at next → (r : Body) → EndSays clauses closed first total r → BodySays text start variables clauses numbers r
+  so-far-end next w (b.Refused number) (e, n) = ⊎-elim (so-far-open next w) (so-far-few next w) n ∙ ap refused (sym e)
+  so-far-end next w (b.Read literals) (h, k, e) = so-far-all next w literals h k e
 
   pub so-far-close : (next : ℕ) → clauses ≤ maxClauses → NextWord text at close next → (first ≡ total → ⊥)
       → ClausesSoFar text start variables clauses (set numbers (3 + (closed + 1)) total) marks next (closed + 1) total total

@@ -15,7 +15,7 @@ use Rattle.base.proofs.Until.{until-stop, until-more, take-until, until-within}
 use Rattle.book.specs.Text.{Piece, Token, blank, lineEnd, tokenOf}
 use Rattle.book.specs.Inner.Walk.{tokensOf, walkStart}
 use Rattle.book.specs.Inner.Words.{wordsHere, wordsStart, wordsLine, wordsBehind, lineLength}
-use Rattle.book.specs.Inner.Cursor.{LineStart, GapEnd, SpaceEnd, tokensHere, NextWord, NextInLine, LineEnds}
+use Rattle.book.specs.Inner.Cursor.{LineStart, GapEnd, SpaceEnd, tokensHere, NextWord, NoWord, NextInLine, LineEnds}
 use Rattle.book.proofs.WordLaws.{here-none, here-end, here-blank, here-word, line-none, line-end, line-blank, line-word, behind-byte, behind-word, start-plain, start-skipped, walk-skipped}
 
 -- the line with its byte 10 is the line and that byte, if the text goes on behind the line
@@ -175,9 +175,13 @@ module _ (text : List ℕ) (start end : ℕ) (h : start < length text) (w : blan
       behind-word start (drop start text) ∙ rw (← e, drop-drop (length (until blank (drop start text))) start text, ← e)
 
 module _ {text : List ℕ} {at start : ℕ} (g : GapEnd text at start) where
-  pub no-word : length text ≤ start → tokensHere text at ≡ []
+  pub no-word : length text ≤ start → NoWord text at start
   unfolding tokensOf
-  no-word h = ap tokensOf (g .same-words ∙ ap (wordsHere start) (drop-of-length-le text h) ∙ here-none start)
+  no-word h =
+      record {
+        at-end = omega (arith, g .within);
+        tokens = ap tokensOf (g .same-words ∙ ap (wordsHere start) (drop-of-length-le text h) ∙ here-none start);
+      }
 
   -- the first word from `at` on, its token, and what follows it
   pub next-word : (end : ℕ) (token : Token) → start < length text → end ≡ start + length (until blank (drop start text))

@@ -20,12 +20,6 @@ module _ (test : List ℕ → Bool) (text : List ℕ) (at : ℕ) where
   word-passes from next n e =
       record { word = take (next - from) (drop from text); passes = e; words = n .words; within = n .within; same-behind = n .same-behind }
 
-  pub word-fails : (from next : ℕ) → NextInLine text at from next → test (take (next - from) (drop from text)) ≡ false → WordFails test text at
-  word-fails from next n e = other (take (next - from) (drop from text)) (lineWords text next) (n .words) e
-
-  pub line-fails : (next : ℕ) → LineEnds text at next → WordFails test text at
-  line-fails next l = none (l .words)
-
 pub field-passes : (text : List ℕ) (at from next value : ℕ) → NextInLine text at from next
     → (unsigned (take (next - from) (drop from text)) ≡ true) × (decimal 0 (take (next - from) (drop from text)) ≡ value)
     → (p : WordPasses unsigned text at next) × (decimal 0 (p .word) ≡ value)
@@ -41,28 +35,28 @@ isCnf word = same word (99 ∷ 110 ∷ 102 ∷ [])
 
 -- the header is malformed as soon as a word of it fails, or a fifth word follows
 module _ {text : List ℕ} {at : ℕ} where
-  pub first-fails : WordFails isP text at → headed (lineWords text at) ≡ false
+  pub first-fails : {next : ℕ} → WordFails isP text at next → headed (lineWords text at) ≡ false
   unfolding headed
-  first-fails (none e) = rw e
-  first-fails (other word rest e f) = rw (e, f, and-false)
+  first-fails (none l) = rw (l .words)
+  first-fails (other from n f) = rw (n .words, f, and-false)
 
   module _ {a : ℕ} (p : WordPasses isP text at a) where
-    pub second-fails : WordFails isCnf text a → headed (lineWords text at) ≡ false
+    pub second-fails : {next : ℕ} → WordFails isCnf text a next → headed (lineWords text at) ≡ false
     unfolding headed
-    second-fails (none e) = rw (p .words, e)
-    second-fails (other word rest e f) = rw (p .words, e, f, and-false)
+    second-fails (none l) = rw (p .words, l .words)
+    second-fails (other from n f) = rw (p .words, n .words, f, and-false)
 
     module _ {b : ℕ} (q : WordPasses isCnf text a b) where
-      pub third-fails : WordFails unsigned text b → headed (lineWords text at) ≡ false
+      pub third-fails : {next : ℕ} → WordFails unsigned text b next → headed (lineWords text at) ≡ false
       unfolding headed
-      third-fails (none e) = rw (p .words, q .words, e)
-      third-fails (other word rest e f) = rw (p .words, q .words, e, f, and-false)
+      third-fails (none l) = rw (p .words, q .words, l .words)
+      third-fails (other from n f) = rw (p .words, q .words, n .words, f, and-false)
 
       module _ {c : ℕ} (r : WordPasses unsigned text b c) where
-        pub fourth-fails : WordFails unsigned text c → headed (lineWords text at) ≡ false
+        pub fourth-fails : {next : ℕ} → WordFails unsigned text c next → headed (lineWords text at) ≡ false
         unfolding headed
-        fourth-fails (none e) = rw (p .words, q .words, r .words, e)
-        fourth-fails (other word rest e f) = rw (p .words, q .words, r .words, e, f, and-false)
+        fourth-fails (none l) = rw (p .words, q .words, r .words, l .words)
+        fourth-fails (other from n f) = rw (p .words, q .words, r .words, n .words, f, and-false)
 
         module _ {d : ℕ} (s : WordPasses unsigned text c d) where
           pub fifth-word : {from next : ℕ} → NextInLine text d from next → headed (lineWords text at) ≡ false

@@ -1,4 +1,5 @@
 -- `read` meets its contract: each way out is a case of the answer. Assumes nothing.
+use Prim.Native.Nat.{_+_}
 use mathlib.Core.Path.{_≡_, subst, sym}
 use native.Mathlib.Omega.{arith}
 use Rattle.book.specs.Inner.Parse.{ParsedSays, Read}
@@ -29,7 +30,7 @@ book-read c = parsed (c .before .before) (c .variables .given .1)
 returns : tie.Need-returns
 returns c =
     let entry = c .before .before .before in
-    answer-refused _ (entry .args .out .now) 1 (too-long (entry .args .text .now) (c .if1 .taken))
+    answer-refused _ (entry .args .out .now) 1 (too-long (entry .args .text .now) (omega (arith, c .if1 .taken)))
 
 parse-requires : tie.Need-parse-requires
 parse-requires c κs = search needs
@@ -56,7 +57,7 @@ returns-2 : tie.Need-returns-2
 returns-2 c =
     let after-variables = c .before .before .before .before in
     let else1 = after-variables .before .before .before .before in
-    read-short (book-read after-variables) (else1 .if1 .left) (else1 .before .before .before .args .out .now) (omega arith)
+    read-short (book-read after-variables) (omega (arith, else1 .if1 .left)) (else1 .before .before .before .args .out .now) (omega arith)
 
 slice-aggregate-copy : tie.Need-slice-aggregate-copy
 slice-aggregate-copy c =
@@ -67,21 +68,26 @@ copy-requires : tie.Need-copy-requires
 copy-requires c κs =
     let after-wide = c .before .before .before .before in
     let after-variables = after-wide .before .before in
-    (omega (arith, after-wide .wide .ensures .0, c .before .before .before .wide2 .ensures .0, book-read after-variables .long, book-read after-variables .few-clauses, book-read after-variables .few-literals), c .before .before .if2 .left)
+    (omega (arith, after-wide .wide .ensures .0, c .before .before .before .wide2 .ensures .0, book-read after-variables .long, book-read after-variables .few-clauses, book-read after-variables .few-literals), omega (arith, c .before .before .if2 .left))
 
 returns-3 : tie.Need-returns-3
 returns-3 c =
     let else1 = c .before .before .before .before .before in
     let entry = else1 .before .before .before in
-    answer-refused _ (entry .args .out .now) _ (read-walked (entry .args .text .now) _ (else1 .if1 .left) (parsed (c .before .before .before) (c .before .number .given .1)))
+    answer-refused _ (entry .args .out .now) _ (read-walked (entry .args .text .now) _ (omega (arith, else1 .if1 .left)) (parsed (c .before .before .before) (c .before .number .given .1)))
 
 same-length : tie.Need-same-length
 same-length c = search needs
 
 returns-4 : tie.Need-returns-4
 returns-4 c =
-    rw (c .before .before .copy .ensures, c .before .before .before .before .before .before .before .wide .ensures .0, c .before .before .before .before .before .before .wide2 .ensures .0)
-    (read-book (book-read (c .before .before .before .before .before .before .before .before .before)) (c .before .before .before .before .before .before .before .before .before .before .before .before .before .if1 .left) (c .before .before .before .before .before .before .before .before .before .before .before .before .before .before .before .before .args .out .now) (omega arith))
+    let after-copy = c .before .before in
+    let after-wide2 = after-copy .before .before .before .before in
+    let after-wide = after-wide2 .before in
+    let after-variables = after-wide .before .before in
+    let else1 = after-variables .before .before .before .before in
+    let entry = else1 .before .before .before in
+    read-book (book-read after-variables) (omega (arith, else1 .if1 .left)) (entry .args .out .now) (after-wide .wide .result + after-wide2 .wide2 .result + 4) (after-copy .copy .ensures) (omega (arith, after-wide .wide .ensures .0, after-wide2 .wide2 .ensures .0)) (omega (arith, after-copy .before .before .before .if2 .left))
 
 pub read-spec : {M : Type 1} → statement M
 read-spec =

@@ -2,6 +2,7 @@
 use Prim.Native.Nat.{ℕ, suc, _+_, _≤_}
 use mathlib.Core.Path.{_≡_}
 use mathlib.Core.Bool.{Bool, cond, _&&_}
+use mathlib.Core.Logic.{_⊎_}
 use mathlib.Core.List.{List, [], _++_}
 use lib.Dec.{leb, ltb, eqb}
 use lib.ListN.{length, take, drop}
@@ -26,6 +27,11 @@ literalFault variables clauses closed opened total repeated l =
     cond (ltb variables (variableOf l)) 5
     (cond (eqb opened maxClause) 6
     (cond repeated 7 (cond (eqb opened 0 && leb clauses closed) 8 (cond (eqb total maxLiterals) 9 0))))
+
+-- what the clauses are where the text ends: fault 8 where a clause is open or another number of them is closed, else all the literals
+abbrev pub EndSays : ℕ → ℕ → ℕ → ℕ → Body → Type 0
+EndSays clauses closed first total (b.Refused number) = (number ≡ 8) × ((first ≡ total → ⊥) ⊎ (closed ≡ clauses → ⊥))
+EndSays clauses closed first total (b.Read literals) = (first ≡ total) × (closed ≡ clauses) × (total ≡ literals)
 
 -- the clauses that the tokens from `at` on write, or their first fault
 abbrev pub BodySays : List ℕ → ℕ → ℕ → ℕ → List ℕ → Body → Type 0

@@ -38,12 +38,17 @@ pub record NextWord (text : List ℕ) (at : ℕ) (token : Token) (next : ℕ) : 
   pub within : next ≤ length text
   pub tokens : tokensHere text at ≡ token ∷ tokensHere text next
 
--- what a step of the cursor says
+-- no token from `at` on, and `next` is the end of the text
+pub record NoWord (text : List ℕ) (at next : ℕ) : Type 0 where
+  pub at-end : next ≡ length text
+  pub tokens : tokensHere text at ≡ []
+
+-- What a step of the cursor says. The cursor handed back stands behind the word, one that is no number too; without a word, at the end of the text.
 abbrev pub Stepped : List ℕ → ℕ → Step → Type 0
 Stepped text at (s.Literal l next) = NextWord text at (literal l) (next .at)
 Stepped text at (s.Close next) = NextWord text at close (next .at)
-Stepped text at s.Invalid = (rest : List Token) × (tokensHere text at ≡ invalid ∷ rest)
-Stepped text at s.End = tokensHere text at ≡ []
+Stepped text at (s.Invalid next) = NextWord text at invalid (next .at)
+Stepped text at (s.End next) = NoWord text at (next .at)
 
 -- From `at` inside a line, there is no word of the line before r, where one begins if the line does not end there.
 pub record SpaceEnd (text : List ℕ) (at r : ℕ) : Type 0 where

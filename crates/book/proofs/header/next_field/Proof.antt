@@ -1,11 +1,11 @@
 -- `next_field` meets its contract. Assumes nothing.
 use mathlib.Core.Path.{_≡_, sym, _∙_, subst}
 use native.Mathlib.Omega.{arith}
-use Rattle.book.specs.Text.{unsigned}
 use Rattle.book.specs.Inner.Cursor.{SteppedInLine}
+use Rattle.book.specs.Inner.Header.{none, other}
 use Rattle.book.specs.declared.cursor.LineWord.{LineWord}
 use Rattle.book.proofs.DecimalLaws.{word-unsigned, word-not-unsigned}
-use Rattle.book.proofs.header.Laws.{field-passes, word-fails, line-fails}
+use Rattle.book.proofs.header.Laws.{field-passes}
 use borrow.Author.Needs.{needs}
 use Rattle.book.proofs.header.next_field.Statement.{statement}
 use Rattle.book.proofs.header.next_field.Tie as tie
@@ -22,8 +22,8 @@ stepped c e =
 next-in-line-requires : tie.Need-next-in-line-requires
 next-in-line-requires c κs = search needs
 
-enum-told : tie.Need-enum-told
-enum-told c = search needs
+enum-known-next : tie.Need-enum-known-next
+enum-known-next c = search needs
 
 enum-known-from : tie.Need-enum-known-from
 enum-known-from c = search needs
@@ -43,11 +43,11 @@ number-requires c κs = search needs
 enum-known-value : tie.Need-enum-known-value
 enum-known-value c = search needs
 
-enum-told-2 : tie.Need-enum-told-2
-enum-told-2 c = search needs
+enum-told : tie.Need-enum-told
+enum-told c = search needs
 
 returns : tie.Need-returns
-returns c = line-fails unsigned _ _ _ (stepped (c .before .before) (c .enum-told .given .1))
+returns c = none (stepped (c .before .before .before) (c .before .next .given .1))
 
 returns-2 : tie.Need-returns-2
 returns-2 c =
@@ -57,21 +57,21 @@ returns-2 c =
 returns-3 : tie.Need-returns-3
 returns-3 c =
     let after-from = c .before .before .before .before .before in
-    word-fails unsigned _ _ _ _ (stepped (after-from .before .before) (after-from .from .given .1)) (word-not-unsigned _ (sym (c .enum-told2 .given .1) ∙ c .before .before .number .ensures))
+    other _ (stepped (after-from .before .before) (after-from .from .given .1)) (word-not-unsigned _ (sym (c .enum-told .given .1) ∙ c .before .before .number .ensures))
 
 pub next-field-spec : {M : Type 1} → statement M
 next-field-spec =
     tie.close
     (tie.spec
     next-in-line-requires
-    enum-told
+    enum-known-next
     enum-known-from
     sub-number
     part-number-start
     part-number-end
     number-requires
     enum-known-value
-    enum-told-2
+    enum-told
     returns
     returns-2
     returns-3)

@@ -5,8 +5,9 @@ use mathlib.Core.Path.{_≡_, sym, _∙_, subst}
 use native.Mathlib.Omega.{arith}
 use Rattle.base.specs.Lists.{same}
 use Rattle.book.specs.Inner.Cursor.{SteppedInLine}
+use Rattle.book.specs.Inner.Header.{none, other}
 use Rattle.book.specs.declared.cursor.LineWord.{LineWord}
-use Rattle.book.proofs.header.Laws.{word-passes, word-fails, line-fails}
+use Rattle.book.proofs.header.Laws.{word-passes}
 use borrow.Author.Needs.{needs}
 use Rattle.book.proofs.header.next_keyword.Statement.{statement}
 use Rattle.book.proofs.header.next_keyword.Tie as tie
@@ -23,8 +24,8 @@ stepped c e =
 next-in-line-requires : tie.Need-next-in-line-requires
 next-in-line-requires c κs = search needs
 
-enum-told : tie.Need-enum-told
-enum-told c = search needs
+enum-known-next : tie.Need-enum-known-next
+enum-known-next c = search needs
 
 enum-known-from : tie.Need-enum-known-from
 enum-known-from c = search needs
@@ -43,8 +44,7 @@ equal-requires c κs = search needs
 
 returns : tie.Need-returns
 returns c =
-    let entry = c .before .before .before .before .before in
-    line-fails (λ (w : List ℕ). same w (entry .args .word .now)) _ _ _ (stepped (c .before .before) (c .enum-told .given .1))
+    none (stepped (c .before .before .before) (c .before .next .given .1))
 
 returns-2 : tie.Need-returns-2
 returns-2 c =
@@ -55,15 +55,14 @@ returns-2 c =
 returns-3 : tie.Need-returns-3
 returns-3 c =
     let after-from = c .before .before .before .before in
-    let entry = after-from .before .before .before .before .before in
-    word-fails (λ (w : List ℕ). same w (entry .args .word .now)) _ _ _ _ (stepped (after-from .before .before) (after-from .from .given .1)) (sym (c .before .equal .ensures) ∙ c .if1 .left)
+    other _ (stepped (after-from .before .before) (after-from .from .given .1)) (sym (c .before .equal .ensures) ∙ c .if1 .left)
 
 pub next-keyword-spec : {M : Type 1} → statement M
 next-keyword-spec =
     tie.close
     (tie.spec
     next-in-line-requires
-    enum-told
+    enum-known-next
     enum-known-from
     sub-equal
     part-equal-start

@@ -54,7 +54,7 @@ returns-3 c =
 returns-4 : tie.Need-returns-4
 returns-4 c =
     let after-word-end = c .before .before .before .before in
-    (_, (next-word (after-word-end .before .before .gap-end .ensures) _ _ (omega arith) (after-word-end .word-end .ensures) (ap tokenIn (sym (c .enum-told2 .given .1)) ∙ c .before .before .token .ensures)) .tokens)
+    next-word (after-word-end .before .before .gap-end .ensures) _ _ (omega arith) (after-word-end .word-end .ensures) (ap tokenIn (sym (c .enum-told2 .given .1)) ∙ c .before .before .token .ensures)
 
 pub next-spec : {M : Type 1} → statement M
 next-spec =
