@@ -1,5 +1,5 @@
 -- That the parts of a session are there: by its book and its length, by the run that it holds, and after stores.
-use Prim.Native.Nat.{ℕ}
+use Prim.Native.Nat.{ℕ, _≤_}
 use mathlib.Core.Bool.{true}
 use mathlib.Core.List.{List}
 use mathlib.Core.Path.{_≡_, refl}
@@ -9,8 +9,12 @@ use Rattle.book.specs.Numbers.{variablesOf, clausesOf, formulaOf, wellFormed}
 use Rattle.book.proofs.PartLaws.{clauses-counted}
 use Rattle.book.proofs.WellFormedLaws.{well-formed-limited}
 use Rattle.run.specs.Run.{Run}
-use Rattle.layout.specs.Layout.{Fits, TrailFits, SessionFits}
+use Rattle.layout.specs.Layout.{Fits, TrailFits, SessionFits, requiredLength, maxSession}
 use Rattle.layout.specs.Encodes.{Encodes}
+
+-- no book needs more numbers than the largest
+pub required-most : (book : List ℕ) → wellFormed book ≡ true → requiredLength (variablesOf book) (clausesOf book) ≤ maxSession
+required-most book well = let limited = well-formed-limited book well in omega (arith, limited .variables, limited .clauses)
 
 pub held-fits : {book numbers : List ℕ} {run : Run} → wellFormed book ≡ true → Encodes (formulaOf book) numbers run → SessionFits book numbers
 held-fits {book} well e = record { well = well; long = omega (arith, e .long, clauses-counted book) }

@@ -68,6 +68,10 @@ linkSlot v c node = linksAt v c + (node - 1)
 abbrev pub requiredLength : ℕ → ℕ → ℕ
 requiredLength v c = trailAt + 5 * v + 6 * c
 
+-- the required length for the largest book
+abbrev pub maxSession : ℕ
+maxSession = requiredLength maxVariables maxClauses
+
 -- few variables, few clauses, and numbers that are long enough; where only the trail's parts are looked at, up to their end
 pub record Fits (v c : ℕ) (numbers : List ℕ) : Type 0 where
   pub few-variables : v ≤ maxVariables

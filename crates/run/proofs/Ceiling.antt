@@ -13,7 +13,7 @@ use Rattle.base.proofs.Lists.{getD-alike}
 use Rattle.book.specs.Formula.{Formula, sound}
 use Rattle.run.specs.Run.{Run, clauseOf, size, cellOf, maxCount, onTrail, withConflict, fresh, backtrack}
 use Rattle.run.specs.Calls.{Call, reference}
-use Rattle.run.specs.Ceiling.{checksOf, countBefore, ceiling}
+use Rattle.run.specs.Ceiling.{checksOf, countBefore, checksSince, ceiling}
 use Rattle.run.proofs.Clauses.{clause-short}
 use Rattle.run.proofs.ScanLaws.{pointer-within}
 use Rattle.run.proofs.Opening.{fresh-watched}
@@ -62,16 +62,20 @@ reference-within : (formula : Formula) → sound formula ≡ true → (calls : L
     → WithinCeiling formula c (countBefore formula c calls) (reference formula calls)
 reference-within formula ok calls c many = reference-keeps formula ok c (WithinCeiling formula c) (within-ceiling-kept formula ok c many) calls
 
-pub ceiling-in-period : (formula : Formula) → sound formula ≡ true → (calls : List Call) (c : ℕ) → 2 ≤ size formula c
+period-most : (formula : Formula) → sound formula ≡ true → (calls : List Call) (c : ℕ) → 2 ≤ size formula c
     → checksOf (reference formula calls) c ≤ countBefore formula c calls + ceiling (size formula c)
-ceiling-in-period formula ok calls c many =
+period-most formula ok calls c many =
     period-within formula c (countBefore formula c calls) (reference formula calls) many (reference-within formula ok calls c many .period)
+
+pub ceiling-in-period : (formula : Formula) → sound formula ≡ true → (calls : List Call) (c : ℕ) → 2 ≤ size formula c
+    → checksSince formula c calls ≤ ceiling (size formula c)
+ceiling-in-period formula ok calls c many = omega (arith, period-most formula ok calls c many)
 
 pub ceiling-in-all : (formula : Formula) → sound formula ≡ true → (calls : List Call) (c : ℕ) → 2 ≤ size formula c
     → checksOf (reference formula calls) c ≤ ceiling (size formula c) * (reference formula calls .backtracks + 1)
 ceiling-in-all formula ok calls c many =
     rw (add-one, mul-suc)
-    (omega (arith, ceiling-in-period formula ok calls c many, reference-within formula ok calls c many .periods-before))
+    (omega (arith, period-most formula ok calls c many, reference-within formula ok calls c many .periods-before))
 
 -- a count never falls
 grows-kept : (formula : Formula) (c : ℕ) → Keeps formula c (λ before run. before ≤ checksOf run c)
@@ -90,6 +94,11 @@ grows-kept formula c =
 pub count-before-within : (formula : Formula) → sound formula ≡ true → (calls : List Call) (c : ℕ)
     → countBefore formula c calls ≤ checksOf (reference formula calls) c
 count-before-within formula ok calls c = reference-keeps formula ok c (λ before run. before ≤ checksOf run c) (grows-kept formula c) calls
+
+-- so the checks of a period are a difference
+pub checks-by-period : (formula : Formula) → sound formula ≡ true → (calls : List Call) (c : ℕ)
+    → checksOf (reference formula calls) c ≡ countBefore formula c calls + checksSince formula c calls
+checks-by-period formula ok calls c = omega (arith, count-before-within formula ok calls c)
 
 -- a clause of one literal is never visited
 zero-kept : (formula : Formula) (c : ℕ) → size formula c < 2 → Keeps formula c (λ before run. checksOf run c ≡ 0)

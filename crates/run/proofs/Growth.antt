@@ -1,15 +1,18 @@
--- Propagation only adds implied literals to the trail.
-use Prim.Native.Nat.{ℕ, zero, suc}
+-- What the opening's one-literal clauses and propagation add to the trail: implied literals only, behind those that were there.
+use Prim.Native.Nat.{ℕ, zero, suc, _≤_, _<_}
+use native.Mathlib.Omega.{arith}
 use mathlib.Core.Bool.{Bool, true, false, cond, not}
 use mathlib.Core.List.{List, [], _∷_, _++_}
-use mathlib.Core.Logic.{⊎-elim}
-use mathlib.Core.Path.{_≡_, refl, ap}
-use lib.Dec.{ltb}
-use lib.ListN.{length}
-use Rattle.base.specs.Lists.{all}
-use Rattle.book.specs.Formula.{Formula}
-use Rattle.run.specs.Trail.{Entry}
-use Rattle.run.specs.Run.{Run, clauseOf, cellOf, Action, stays, moves, implies, conflicts, otherWatch, action, onTrail, withWatches, withConflict, counted, performAction, visit, inConflict, readList, propagateFrom}
+use mathlib.Core.Logic.{⊎-elim, _↔_}
+use mathlib.Core.Path.{_≡_, refl, sym, ap, _∙_}
+use lib.Dec.{ltb, eqb}
+use lib.ListN.{length, getD}
+use Rattle.base.specs.Lists.{all, distinct}
+use Rattle.base.proofs.Bools.{below}
+use Rattle.book.specs.Formula.{Formula, variableOf}
+use Rattle.run.specs.Trail.{Entry, place, isTrue, isFalse, decisions, variablesOn}
+use Rattle.run.specs.Run.{Run, clauseOf, cellOf, Action, stays, moves, implies, conflicts, otherWatch, action, onTrail, withWatches, withConflict, counted, performAction, visit, inConflict, readList, propagateFrom, assignUnit, assignUnits}
+use Rattle.run.proofs.Trails.{place-cases, place-within, place-true, true-place, newest-apart, rest-distinct}
 use Rattle.run.proofs.Inductions.{read-induction, readNext, nextRead}
 
 -- the trail `old` with some implied literals more
@@ -24,6 +27,43 @@ grown-by same = ([], refl, refl)
 grown-by (more l g) =
     let r = grown-by g in
     (record { literal = l; decided = false } ∷ r .0, r .1, ap (λ (t : List Entry). record { literal = l; decided = false } ∷ t) (r .2))
+
+-- implied literals are no decisions, and change no place of the trail before them
+pub grown-decisions : {old trail : List Entry} → Grown old trail → decisions trail ≡ decisions old
+unfolding decisions
+grown-decisions same = refl
+grown-decisions (more l g) = grown-decisions g
+
+pub grown-longer : {old trail : List Entry} → Grown old trail → length old ≤ length trail
+grown-longer same = omega arith
+grown-longer (more l g) = let h = grown-longer g in omega arith
+
+grown-within : {old trail : List Entry} → Grown old trail → (m : ℕ) → place trail m ≤ length old → place trail m ≡ place old m
+grown-within same m h = refl
+grown-within (more l {trail} g) m h =
+    ⊎-elim (λ p. absurd (omega (arith, grown-longer g))) (λ p. p .1 ∙ grown-within g m (omega arith))
+    (place-cases (record { literal = l; decided = false }) trail m)
+
+grown-older : {old trail : List Entry} → Grown old trail → distinct (variablesOn trail) ≡ true → (m : ℕ) → 0 < place old m
+    → place trail m ≡ place old m
+grown-older same d m h = refl
+grown-older {old} (more l {trail} g) d m h =
+    let e : Entry = record { literal = l; decided = false } in
+    let rest : place trail m ≡ place old m = grown-older g (rest-distinct e trail d) m h in
+    ⊎-elim (λ p. absurd (newest-apart e trail m d (omega arith) (ap variableOf (sym (p .0))))) (λ p. p .1 ∙ rest) (place-cases e trail m)
+
+-- the literals behind the places of the trail before are those that were not true there
+pub grown-gains : {old trail : List Entry} → Grown old trail → distinct (variablesOn trail) ≡ true → (m : ℕ)
+    → (length old < place trail m) ↔ ((isTrue trail m ≡ true) × (isTrue old m ≡ true → ⊥))
+grown-gains {old} {trail} g d m = (
+  λ h. (
+    place-true trail m (omega arith),
+    λ t. let p = grown-older g d m (true-place old m t) in absurd (omega (arith, place-within old m)),
+  ),
+  λ k. ⊎-elim (λ h. h)
+      (λ h. absurd (k .1 (place-true old m (let p = grown-within g m h in omega (arith, true-place trail m (k .0))))))
+      (below (length old) (place trail m)),
+)
 
 pub visit-grows : (formula : Formula) (q c : ℕ) (old : List Entry) (run : Run) → Grown old (run .trail)
     → Grown old (visit formula q c run .trail)
@@ -60,3 +100,29 @@ propagating-grows (suc fuel) formula handled old run g =
     go true t k = g
     go false true k = k
     go false false k = g
+
+-- the opening's one-literal clauses imply their literals
+unit-grows : (c : ℕ) (clause : List ℕ) (old : List Entry) (run : Run) → Grown old (run .trail) → Grown old (assignUnit c clause run .trail)
+unfolding assignUnit withConflict onTrail
+unit-grows c clause old run g = go (eqb (length clause) 1) (isTrue (run .trail) l) (isFalse (run .trail) l)
+  where
+    l : ℕ
+    l = getD clause 0 0
+
+    go : (single t f : Bool) → Grown old (cond single (cond t run (cond f (withConflict (suc c) run) (onTrail l false run))) run .trail)
+    go false t f = g
+    go true true f = g
+    go true false true = g
+    go true false false = more l g
+
+pub units-grow : (c : ℕ) (clauses : List (List ℕ)) (old : List Entry) (run : Run) → Grown old (run .trail)
+    → Grown old (assignUnits c clauses run .trail)
+unfolding assignUnits
+units-grow c [] old run g = g
+units-grow c (clause ∷ clauses) old run g =
+    go (inConflict (assignUnit c clause run)) (units-grow (suc c) clauses old (assignUnit c clause run) (unit-grows c clause old run g))
+  where
+    go : (b : Bool) → Grown old (assignUnits (suc c) clauses (assignUnit c clause run) .trail)
+        → Grown old (cond b (assignUnit c clause run) (assignUnits (suc c) clauses (assignUnit c clause run)) .trail)
+    go true rest = unit-grows c clause old run g
+    go false rest = rest

@@ -1,5 +1,5 @@
 -- The theorems of the reference run: validity, closure, what a decision and a backtrack change, agreement of runs, fuel.
-use Prim.Native.Nat.{ℕ, suc, _+_, _<_}
+use Prim.Native.Nat.{ℕ, suc, _+_, _≤_, _<_}
 use native.Mathlib.Omega.{arith}
 use mathlib.Core.Bool.{Bool, true, false, cond, not}
 use mathlib.Core.List.{List, [], _∷_, _++_}
@@ -8,20 +8,21 @@ use mathlib.Core.Path.{_≡_, refl, sym, ap, _∙_}
 use borrow.Author.Tests.{eqb-true, ne-eqb}
 use lib.Dec.{eqb}
 use lib.ListN.{length, getD, drop}
-use Rattle.base.specs.Lists.{all, member}
+use Rattle.base.specs.Lists.{all, member, distinct}
 use Rattle.base.proofs.Bools.{never, same-test}
-use Rattle.book.specs.Formula.{Formula, sound}
-use Rattle.run.specs.Trail.{Entry, isTrue, isFalse, decisions, cut}
+use Rattle.book.specs.Formula.{Formula, positive, sound}
+use Rattle.run.specs.Trail.{Entry, place, isTrue, isFalse, isAssigned, isMet, variablesOn, decisions, cut}
 use Rattle.run.specs.Scan.{Cell}
 use Rattle.run.specs.Run.{Run, clauseOf, Action, moves, action, onTrail, inConflict, propagateFrom, fresh, assignUnits, openRun, decide, backtrack}
 use Rattle.run.specs.Calls.{Call, decision, backtrackBy, decideRefusal, backtrackRefusal, refusal, performCall, step, stepAll, reference}
 use Rattle.run.specs.Valid.{Valid}
 use Rattle.run.specs.Closure.{Closure, UnitClosed, Contains, BothWays}
 use Rattle.run.proofs.ScanLaws.{scan-found}
-use Rattle.run.proofs.Growth.{same, grown-by, propagating-grows}
+use Rattle.run.proofs.Growth.{Grown, same, grown-by, grown-decisions, grown-longer, grown-gains, units-grow, propagating-grows}
 use Rattle.run.proofs.Validity.{propagated, fuel-enough, decision-accepted, decision-going, decided-valid, backtrack-accepted, backtracked-valid}
 use Rattle.run.proofs.Opening.{opening-state}
 use Rattle.run.proofs.ClosureLaws.{closure-within, closure-holds, closure-closed, closure-grows, assigned-closure, conflict-both-ways}
+use Rattle.run.proofs.MetLaws.{all-met}
 use Rattle.run.proofs.Levels.{suffix-append, cut-suffix, cut-decisions}
 use Rattle.run.proofs.Actions.{Case, staying, moving, implying, conflicting, action-case}
 
@@ -87,17 +88,49 @@ pub conflict-clause-false : (formula : Formula) (run : Run) → Valid formula ru
     → (m : ℕ) → member m (clauseOf formula c) ≡ true → isFalse (run .trail) m ≡ true
 conflict-clause-false formula run v c e = v .conflict-false c e .1
 
+-- Out of conflict with no variable open every clause is met.
+pub nothing-open-all-met : (formula : Formula) (run : Run) → sound formula ≡ true → Valid formula run → run .conflict ≡ 0
+    → ((x : ℕ) → 1 ≤ x → x ≤ formula .variables → isAssigned (run .trail) (positive x) ≡ true)
+    → (c : ℕ) → c < length (formula .clauses) → isMet (run .trail) (clauseOf formula c) ≡ true
+nothing-open-all-met formula run s v quiet none-open = all-met formula s run v quiet none-open
+
+-- An opening makes no decision, and a decision one.
+open-grown : (formula : Formula) → Grown [] (openRun formula .trail)
+unfolding openRun fresh
+open-grown formula =
+    propagating-grows (suc (formula .variables)) formula 0 [] (assignUnits 0 (formula .clauses) (fresh formula))
+    (units-grow 0 (formula .clauses) [] (fresh formula) same)
+
+decide-grown : (formula : Formula) (l : ℕ) (run : Run) → Grown (record { literal = l; decided = true } ∷ run .trail) (decide formula l run .trail)
+unfolding decide onTrail
+decide-grown formula l run =
+    propagating-grows (suc (formula .variables)) formula (length (run .trail)) (record { literal = l; decided = true } ∷ run .trail)
+    (onTrail l true run) same
+
+pub open-undecided : (formula : Formula) → decisions (openRun formula .trail) ≡ []
+unfolding decisions
+open-undecided formula = grown-decisions (open-grown formula)
+
+pub decide-decisions : (formula : Formula) (l : ℕ) (run : Run) → decisions (decide formula l run .trail) ≡ l ∷ decisions (run .trail)
+unfolding decisions
+decide-decisions formula l run = grown-decisions (decide-grown formula l run)
+
+-- What a decision gains on the trail: the literals behind its own place.
+pub decide-longer : (formula : Formula) (l : ℕ) (run : Run) → length (run .trail) < length (decide formula l run .trail)
+decide-longer formula l run = grown-longer (decide-grown formula l run)
+
+pub decide-gains : (formula : Formula) (l : ℕ) (run : Run) → distinct (variablesOn (decide formula l run .trail)) ≡ true → (m : ℕ)
+    → (suc (length (run .trail)) < place (decide formula l run .trail) m)
+    ↔ ((isTrue (decide formula l run .trail) m ≡ true) × (isTrue (record { literal = l; decided = true } ∷ run .trail) m ≡ true → ⊥))
+decide-gains formula l run = grown-gains (decide-grown formula l run)
+
 -- A decision puts its literal and implied ones on the trail and changes nothing before them. A backtrack of k leaves the trail up to
 -- before the k-th last decision, moves no watch, pointer or list, makes no check, ends a conflict, and counts one.
 pub decide-extends : (formula : Formula) (l : ℕ) (run : Run)
     → (new : List Entry)
     × (all (λ (e : Entry). not (e .decided)) new ≡ true)
     × (decide formula l run .trail ≡ new ++ (record { literal = l; decided = true } ∷ run .trail))
-unfolding decide onTrail
-decide-extends formula l run =
-    grown-by
-    (propagating-grows (suc (formula .variables)) formula (length (run .trail)) (record { literal = l; decided = true } ∷ run .trail)
-    (onTrail l true run) same)
+decide-extends formula l run = grown-by (decide-grown formula l run)
 
 pub backtrack-keeps : (k : ℕ) (run : Run)
     → (backtrack k run .trail ≡ cut k (run .trail))

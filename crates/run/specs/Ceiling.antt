@@ -6,7 +6,7 @@ use lib.Dec.{eqb}
 use lib.ListN.{getD}
 use Rattle.book.specs.Formula.{Formula}
 use Rattle.run.specs.Run.{Run, openRun}
-use Rattle.run.specs.Calls.{Call, decision, backtrackBy, backtrackRefusal, step}
+use Rattle.run.specs.Calls.{Call, decision, backtrackBy, backtrackRefusal, step, reference}
 
 abbrev pub checksOf : Run → ℕ → ℕ
 checksOf run c = getD (run .checks) c 0
@@ -24,6 +24,10 @@ countAtLatest formula c count run (backtrackBy k ∷ calls) =
 -- The checks of clause c when the period began: at the latest accepted backtrack, or 0, as the opening began, where there is none.
 abbrev pub countBefore : Formula → ℕ → List Call → ℕ
 countBefore formula c calls = countAtLatest formula c 0 (openRun formula) calls
+
+-- the checks of clause c since the period began
+abbrev pub checksSince : Formula → ℕ → List Call → ℕ
+checksSince formula c calls = checksOf (reference formula calls) c - countBefore formula c calls
 
 -- the ceiling of a clause of n ≥ 2 literals in one period
 abbrev pub ceiling : ℕ → ℕ

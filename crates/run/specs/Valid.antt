@@ -1,4 +1,4 @@
--- A valid run: document 01, "Examination", condition by condition.
+-- A valid run: what document 01, "Examination", asks of a run, condition by condition. Of lent numbers it is `ValidSession` of validation, values and links among them.
 use Prim.Native.Nat.{ℕ, suc, _+_, _*_, _≤_, _<_}
 use mathlib.Core.Path.{_≡_}
 use mathlib.Core.Logic.{_⊎_}

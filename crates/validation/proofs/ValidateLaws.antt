@@ -4,9 +4,9 @@ use native.Mathlib.Omega.{arith}
 use mathlib.Core.Bool.{true, false}
 use mathlib.Core.List.{List}
 use mathlib.Core.Logic.{_⊎_, inl, inr, ⊎-elim}
-use mathlib.Core.Path.{_≡_, refl, sym, _∙_}
+use mathlib.Core.Path.{_≡_, refl, sym}
 use lib.ListN.{length, getD, drop, length-drop, List·getD-eq-default}
-use lib.Seq.{length-take-le, getD-take, getD-drop}
+use lib.Seq.{length-take-le}
 use Rattle.base.proofs.Bools.{refuted, below}
 use Rattle.book.specs.Numbers.{variablesOf, clausesOf, formulaOf, wellFormed}
 use Rattle.book.proofs.PartLaws.{clauses-counted}
@@ -24,10 +24,11 @@ use Rattle.validation.specs.Inner.Cells.{CellsGood}
 use Rattle.validation.specs.Inner.Lists.{ListsGood}
 use Rattle.validation.specs.Inner.Fixpoint.{FixpointOn}
 use Rattle.validation.specs.Inner.Conflict.{AllFalse}
+use Rattle.validation.proofs.cells.Laws.{held-check}
 use Rattle.validation.proofs.trail.Laws.{held-length}
 use Rattle.layout.proofs.FitsLaws.{held-fits}
 use Rattle.layout.proofs.HeldLaws.{length-cells, length-lists}
-use Rattle.validation.proofs.PassLaws.{passes-iff}
+use Rattle.validation.proofs.PassLaws.{passes-encodes}
 
 -- the conditions that a session has to meet in conflict and out of it
 pub record Built (book numbers : List ℕ) : Type 0 where
@@ -70,15 +71,6 @@ module _ (book numbers : List ℕ) (well : wellFormed book ≡ true) where
     long-checks : length (formulaOf book .clauses) ≤ length (drop (checksAt (variablesOf book) (length (formulaOf book .clauses))) numbers)
     long-checks = rw length-drop (omega (arith, p .built .enough .long, clauses-counted book))
 
-    check-at : (c : ℕ) → c < length (formulaOf book .clauses)
-        → getD numbers (checksAt (variablesOf book) (length (formulaOf book .clauses)) + c) 0
-        ≡ getD (held (formulaOf book) numbers .checks) c 0
-    unfolding held
-    check-at c less =
-        sym
-        (getD-take (length (formulaOf book .clauses)) (drop (checksAt (variablesOf book) (length (formulaOf book .clauses))) numbers) c 0 less
-        ∙ getD-drop (checksAt (variablesOf book) (length (formulaOf book .clauses))) numbers c 0)
-
     checks-long : length (held (formulaOf book) numbers .checks) ≡ length (formulaOf book .clauses)
     unfolding held
     checks-long = length-take-le _ _ long-checks
@@ -86,7 +78,7 @@ module _ (book numbers : List ℕ) (well : wellFormed book ≡ true) where
     checks-small : ((i : ℕ) → getD numbers i 0 ≤ maxCount) → (c : ℕ) → getD (held (formulaOf book) numbers .checks) c 0 ≤ maxCount
     checks-small small c =
         ⊎-elim
-        (λ less. rw (check-at c less) at (small (checksAt (variablesOf book) (length (formulaOf book .clauses)) + c)))
+        (λ less. rw (sym (held-check (formulaOf book) numbers c less)) at (small (checksAt (variablesOf book) (length (formulaOf book .clauses)) + c)))
         (λ out.
         let none : getD (held (formulaOf book) numbers .checks) c 0 ≡ 0 =
         List·getD-eq-default (held (formulaOf book) numbers .checks) 0 (omega (arith, checks-long)) in
@@ -102,7 +94,7 @@ module _ (book numbers : List ℕ) (well : wellFormed book ≡ true) where
           conflict = refl;
           backtracks = refl;
           watches = p .built .lists .is-held;
-          checks = check-at;
+          checks = λ c h. sym (held-check (formulaOf book) numbers c h);
         }
 
     parts-valid : ((i : ℕ) → getD numbers i 0 ≤ maxCount) → Valid (formulaOf book) (held (formulaOf book) numbers)
@@ -134,7 +126,7 @@ module _ (book numbers : List ℕ) (well : wellFormed book ≡ true) where
 
     pub parts-pass : ((i : ℕ) → getD numbers i 0 ≤ maxCount) → passes (formulaOf book) numbers ≡ true
     parts-pass small =
-        passes-iff (formulaOf book) (well-formed-sound book well) numbers .1 (parts-valid small, parts-encodes)
+        passes-encodes (formulaOf book) (well-formed-sound book well) numbers .1 (parts-valid small, parts-encodes)
 
   valid-parts : Valid (formulaOf book) (held (formulaOf book) numbers) → Encodes (formulaOf book) numbers (held (formulaOf book) numbers)
       → PartsPass book numbers
@@ -172,7 +164,7 @@ module _ (book numbers : List ℕ) (well : wellFormed book ≡ true) where
 
   pub passes-parts : passes (formulaOf book) numbers ≡ true → PartsPass book numbers
   passes-parts e =
-      let k = passes-iff (formulaOf book) (well-formed-sound book well) numbers .0 e in
+      let k = passes-encodes (formulaOf book) (well-formed-sound book well) numbers .0 e in
       valid-parts (k .0) (k .1)
 
   pub parts-fail : (PartsPass book numbers → ⊥) → false ≡ passes (formulaOf book) numbers

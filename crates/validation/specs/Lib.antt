@@ -1,3 +1,4 @@
--- The definitions of `validation`: the test that a lent session passes. No public promise rests on `Inner`.
+-- The definitions of `validation`: the examination of a lent session, as conditions and as a test. No public promise rests on `Inner`.
+pub mod ValidSession
 pub mod Validation
 pub mod Inner

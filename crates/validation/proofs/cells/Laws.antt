@@ -8,7 +8,8 @@ use mathlib.Core.Logic.{⊎-elim}
 use mathlib.Core.Path.{_≡_, refl, ap, _∙_}
 use borrow.Author.Tests.{lt-ltb, le-ltb, le-leb, lt-leb, eq-eqb, ne-eqb}
 use lib.Dec.{eqb}
-use lib.ListN.{length, getD, List·getD-eq-default}
+use lib.ListN.{length, getD, drop, List·getD-eq-default}
+use lib.Seq.{getD-take, getD-drop}
 use Rattle.base.proofs.Bools.{below, never}
 use Rattle.book.specs.Formula.{Formula}
 use Rattle.book.specs.Numbers.{variablesOf, clausesOf, clauseStart, formulaOf, wellFormed}
@@ -16,7 +17,7 @@ use Rattle.book.proofs.PartLaws.{clauses-counted, clause-of-formula, length-cla
 use Rattle.book.proofs.WellFormedLaws.{well-formed-parted}
 use Rattle.run.specs.Scan.{Cell}
 use Rattle.run.specs.Run.{size, noCell, cellAt}
-use Rattle.layout.specs.Layout.{Fits, SessionFits, watchesAt, pointersAt, held}
+use Rattle.layout.specs.Layout.{Fits, SessionFits, watchesAt, pointersAt, checksAt, held}
 use Rattle.layout.proofs.FitsLaws.{session-fits}
 use Rattle.validation.specs.Validation.{isWatching}
 use Rattle.validation.specs.Inner.Says.{Says}
@@ -45,6 +46,13 @@ module _ (formula : Formula) (numbers : List ℕ) where
   pub held-cells-length : length (held formula numbers .cells) ≡ length (formula .clauses)
   unfolding held
   held-cells-length = length-cells (formula .variables) (length (formula .clauses)) numbers 0 (length (formula .clauses))
+
+  pub held-check : (d : ℕ) → d < length (formula .clauses)
+      → getD (held formula numbers .checks) d 0 ≡ getD numbers (checksAt (formula .variables) (length (formula .clauses)) + d) 0
+  unfolding held
+  held-check d h =
+      getD-take (length (formula .clauses)) (drop (checksAt (formula .variables) (length (formula .clauses))) numbers) d 0 h
+      ∙ getD-drop (checksAt (formula .variables) (length (formula .clauses))) numbers d 0
 
 -- the test of one cell, one law for each way out of the code
 module _ (n first second pointer : ℕ) where
