@@ -8,7 +8,7 @@ ghost use Rattle.run.specs.Scan.{scan};
 ghost use Rattle.run.specs.Run.{clauseOf, cellOf, maxCount};
 ghost use Rattle.layout.specs.Layout.{Fits};
 ghost use Rattle.engine.specs.Inner.Scan.{scannedIn};
-ghost use Rattle.engine.specs.Inner.Visit.{Visiting, Visited, otherNode, countNums, watchNums, Scannable, Seeking};
+ghost use Rattle.engine.specs.Inner.Visit.{Visiting, Visited, otherNode, countNums, watchNums, tellsTrue, Scannable, Seeking};
 use crate::lists::Walk;
 use crate::lists::keep;
 use crate::lists::push_front;
@@ -45,6 +45,17 @@ fn other_node(node: u32) -> u32
         return node + 1;
     }
     node - 1
+}
+
+// Whether a value is true.
+fn is_true(value: Value) -> bool
+    ensures { λ r. ⌜ r ≡ tellsTrue value ⌝ }
+{
+    match value {
+        Value::True => true,
+        Value::False => false,
+        Value::Open => false,
+    }
 }
 
 // A count of checks stops at its largest value.
@@ -103,10 +114,11 @@ fn scan_at(book: &[u32], session: &[u32], c: usize) -> Scan
     )
 }
 
-// The search for a new watch of a clause whose other watch is not true; `dead` says that it is false.
-fn seek(book: &[u32], session: &mut [u32], walk: Walk, other: u32, dead: bool) -> Visit
-    requires { ⌜ Seeking (now book) (now session) walk other dead ⌝ }
-    ensures { λ r. ⌜ ((seeking : Seeking (now (book .entry)) (now (session .entry)) walk other dead) → Visited (now (book .entry)) (now (session .entry)) (now (session .exit)) (seeking .at) r) ⌝ }
+// The search for a new watch of a clause whose other watch is not true. Where there is none, an open other watch is implied, and a false
+// one is a conflict; beside a true one, which is not asked for, the clause would stay.
+fn seek(book: &[u32], session: &mut [u32], walk: Walk, other: u32, value: Value) -> Visit
+    requires { ⌜ Seeking (now book) (now session) walk other value ⌝ }
+    ensures { λ r. ⌜ ((seeking : Seeking (now (book .entry)) (now (session .entry)) walk other value) → Visited (now (book .entry)) (now (session .entry)) (now (session .exit)) (seeking .at) r) ⌝ }
 {
     let variables = book::variables(book);
     let clauses = book::clauses(book);
@@ -124,13 +136,18 @@ fn seek(book: &[u32], session: &mut [u32], walk: Walk, other: u32, dead: bool) -
         }
         Scan::Nothing(made) => {
             add_checks(session, count, made);
-            if dead {
-                session[CONFLICT] = c as u32 + 1;
-                return Visit::Conflict;
+            match value {
+                Value::True => Visit::GoOn(keep(session, variables, clauses, walk)),
+                Value::False => {
+                    session[CONFLICT] = c as u32 + 1;
+                    Visit::Conflict
+                }
+                Value::Open => {
+                    let level = session[DECISIONS];
+                    assign(session, variables, other, level);
+                    Visit::GoOn(keep(session, variables, clauses, walk))
+                }
             }
-            let level = session[DECISIONS];
-            assign(session, variables, other, level);
-            Visit::GoOn(keep(session, variables, clauses, walk))
         }
     }
 }
@@ -147,9 +164,9 @@ pub(crate) fn visit_clause(book: &[u32], session: &mut [u32], walk: Walk) -> Vis
     let start = clause_start(book, clause_of_node(node));
     let watch = wide(session[watch_slot(variables, other_node(node))]);
     let other = book[start + watch];
-    match literal_value(session, variables, other) {
-        Value::True => Visit::GoOn(keep(session, variables, clauses, walk)),
-        Value::False => seek(book, session, walk, other, true),
-        Value::Open => seek(book, session, walk, other, false),
+    let value = literal_value(session, variables, other);
+    if is_true(value) {
+        return Visit::GoOn(keep(session, variables, clauses, walk));
     }
+    seek(book, session, walk, other, value)
 }

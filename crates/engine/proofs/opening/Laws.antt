@@ -32,7 +32,7 @@ use Rattle.engine.specs.Inner.Propagation.{Propagating}
 use Rattle.engine.specs.Engine.{Becomes}
 use Rattle.engine.specs.Inner.Opening.{Cleared, Units, UnitDone}
 use Rattle.engine.proofs.trail.Laws.{assign-beside}
-use Rattle.engine.proofs.scan.Laws.{ValueSays}
+use Rattle.engine.specs.Inner.Scan.{ValueSays}
 use Rattle.engine.proofs.propagation.Laws.{becomes-then}
 use Rattle.engine.proofs.visit.StoreLaws.{trail-room, encodes-implied}
 use Rattle.engine.proofs.visit.SpotLaws.{held-says}

@@ -15,15 +15,9 @@ use Rattle.run.specs.Scan.{Cell, Scanned, next, watched, oneMore, scanFrom, sca
 use Rattle.run.proofs.Opposites.{opposite-cases, opposite-variable}
 use Rattle.run.proofs.Circle.{next-within}
 use Rattle.layout.specs.Values.{valueRead, valueIn, Reads}
-use Rattle.engine.specs.Inner.Scan.{ScanReady}
+use Rattle.engine.specs.Inner.Scan.{ScanReady, ValueSays}
 use Rattle.layout.specs.declared.values.Value.{Value}
 use Rattle.layout.specs.declared.values.Value.the-variants.{Open, True, False}
-
--- what a value says of a literal on the trail
-abbrev pub ValueSays : List Entry → ℕ → Value → Type 0
-ValueSays trail l Open = (isTrue trail l ≡ false) × (isFalse trail l ≡ false)
-ValueSays trail l True = (isTrue trail l ≡ true) × (isFalse trail l ≡ false)
-ValueSays trail l False = (isTrue trail l ≡ false) × (isFalse trail l ≡ true)
 
 -- the two values that a test tells apart
 open-true : Open ≡ True → ⊥

@@ -1,7 +1,7 @@
 -- The search for a new watch: what follows from what the scan answers.
 use Prim.Native.Nat.{ℕ, suc, _+_, _*_, _≤_, _<_, min}
 use native.Mathlib.Omega.{arith}
-use mathlib.Core.Bool.{Bool, true, false}
+use mathlib.Core.Bool.{Bool, true, false, false≢true}
 use mathlib.Core.List.{List, [], _∷_, _++_}
 use mathlib.Core.Option.{none, some}
 use mathlib.Core.Path.{_≡_, sym, ap, _∙_, subst}
@@ -23,10 +23,12 @@ use Rattle.run.proofs.WatchLists.{moved-apart, moved-watched}
 use Rattle.run.specs.Progress.{Watched}
 use Rattle.layout.specs.Layout.{decisionsAt, conflictAt, lengthAt, checksAt, requiredLength, clauseOfNode}
 use Rattle.layout.specs.Encodes.{Encodes}
+use Rattle.layout.specs.declared.values.Value.{Value}
+use Rattle.layout.specs.declared.values.Value.the-variants.{Open, True, False}
 use Rattle.engine.specs.Engine.{SameBehind}
 use Rattle.engine.specs.Inner.Lists.{Lists, Walking, Unlisted, KeptOn, TakenOut, PushedFront, linked}
 use Rattle.engine.specs.Inner.Trail.{SameBeside, assignNums}
-use Rattle.engine.specs.Inner.Scan.{scannedIn}
+use Rattle.engine.specs.Inner.Scan.{scannedIn, ValueSays}
 use Rattle.engine.specs.Inner.Visit.{Visiting, Visited, countNums, watchNums, Scannable, Seeking}
 use Rattle.engine.specs.declared.lists.Walk.{Walk}
 use Rattle.engine.specs.declared.scan.Scan.{Scan}
@@ -39,7 +41,7 @@ use Rattle.engine.proofs.visit.StoreLaws.{trail-room, encodes-counted, 
 use Rattle.engine.proofs.visit.SpotLaws.{spot-literal, well-sound, visited-watched, visited-trailed, visited-checks, visited-lists, visited-seen, clause-inside-formula, clause-is, spot, other-within, visited-by}
 use Rattle.engine.proofs.visit.MoveLaws.{moved-others, moved-turned, node-moved, out-same, out-free}
 
-module _ {book numbers : List ℕ} {walk : Walk} {other : ℕ} {dead : Bool} (seeking : Seeking book numbers walk other dead) where
+module _ {book numbers : List ℕ} {walk : Walk} {other : ℕ} {value : Value} (seeking : Seeking book numbers walk other value) where
   abbrev at : Visiting book numbers walk
   at = seeking .at
 
@@ -84,6 +86,10 @@ module _ {book numbers : List ℕ} {walk : Walk} {other : ℕ} {dead : Bool} (se
 
   untrue : isTrue trail (otherWatch clause cell q) ≡ false
   untrue = rw (← seeking .other-is) (seeking .untrue)
+
+  -- so its value is not true
+  pub never-true : value ≡ True → ⊥
+  never-true e = false≢true (sym (seeking .untrue) ∙ subst (ValueSays trail other) e (seeking .says) .0)
 
   -- a position is found
   module _ (position made : ℕ) (found : record { found = some position; checks = made } ≡ scan trail clause cell) where
@@ -184,17 +190,17 @@ module _ {book numbers : List ℕ} {walk : Walk} {other : ℕ} {dead : Bool} (se
       moved-visited {after} after-is =
           visited-by at after (v.GoOn next) (counted c made movedRun) visit-moves
           (rw after-is (encodes-counted formula pushed movedRun pushed-encodes watched-after (visited-checks at) c made (clause-inside-formula at)))
-          (rw after-is (length-set pushed place value ∙ pushed-length))
+          (rw after-is (length-set pushed place filled ∙ pushed-length))
           (rw after-is
-          (drop-set-lt (requiredLength (variablesOf book) (clausesOf book)) pushed place value (let i = clause-inside-formula at in omega (arith, clauses-counted book))
+          (drop-set-lt (requiredLength (variablesOf book) (clausesOf book)) pushed place filled (let i = clause-inside-formula at in omega (arith, clauses-counted book))
           ∙ pushed-behind))
           (at .reading .going .quiet, (at .passed, goes-on))
         where
           place : ℕ
           place = checksAt (variablesOf book) (length (formula .clauses)) + c
 
-          value : ℕ
-          value = min (getD pushed place 0 + made) maxCount
+          filled : ℕ
+          filled = min (getD pushed place 0 + made) maxCount
 
     pub visited-moved : (vars many count literal : ℕ) {taken stored pushed after : List ℕ} (next : Walk) → vars ≡ variablesOf book → many ≡ clausesOf book
         → count ≡ checksAt vars many + clauseOfNode (walk .node) → literal ≡ getD clause position 0
@@ -206,16 +212,19 @@ module _ {book numbers : List ℕ} {walk : Walk} {other : ℕ} {dead : Bool} (se
 
   -- no position is found
   module _ (made : ℕ) (missed : record { found = none; checks = made } ≡ scan trail clause cell) where
-    other-false : (b : Bool) → dead ≡ b → isFalse trail (otherWatch clause cell q) ≡ b
-    other-false b e = ap (isFalse trail) (sym (seeking .other-is)) ∙ sym (seeking .unfalse) ∙ e
+    unfalse : value ≡ Open → isFalse trail other ≡ false
+    unfalse e = subst (ValueSays trail other) e (seeking .says) .1
 
-    visit-implies : dead ≡ false → visit formula q c (at .run) ≡ performAction formula q c (implies made) (at .run)
-    unfolding visit action scannedAction
-    visit-implies e = rw (untrue, ← missed, other-false false e)
+    other-false : (b : Bool) → isFalse trail other ≡ b → isFalse trail (otherWatch clause cell q) ≡ b
+    other-false b e = ap (isFalse trail) (sym (seeking .other-is)) ∙ e
 
-    visit-conflicts : dead ≡ true → visit formula q c (at .run) ≡ performAction formula q c (conflicts made) (at .run)
+    visit-implies : value ≡ Open → visit formula q c (at .run) ≡ performAction formula q c (implies made) (at .run)
     unfolding visit action scannedAction
-    visit-conflicts e = rw (untrue, ← missed, other-false true e)
+    visit-implies e = rw (untrue, ← missed, other-false false (unfalse e))
+
+    visit-conflicts : value ≡ False → visit formula q c (at .run) ≡ performAction formula q c (conflicts made) (at .run)
+    unfolding visit action scannedAction
+    visit-conflicts e = rw (untrue, ← missed, other-false true (subst (ValueSays trail other) e (seeking .says) .1))
 
     abbrev place-count : ℕ
     place-count = checksAt (variablesOf book) (length (formulaOf book .clauses)) + c
@@ -242,7 +251,7 @@ module _ {book numbers : List ℕ} {walk : Walk} {other : ℕ} {dead : Bool} (se
         drop-set-lt (requiredLength (variablesOf book) (clausesOf book)) numbers place-count (min (getD numbers place-count 0 + made) maxCount)
         (let i = clause-inside-formula at in omega (arith, clauses-counted book))
 
-    pub visited-conflict : dead ≡ true → (vars many count name : ℕ) (after : List ℕ) → vars ≡ variablesOf book → many ≡ clausesOf book
+    pub visited-conflict : value ≡ False → (vars many count name : ℕ) (after : List ℕ) → vars ≡ variablesOf book → many ≡ clausesOf book
         → count ≡ checksAt vars many + clauseOfNode (walk .node)
         → name ≡ clauseOfNode (walk .node) + 1
         → after ≡ set (countNums numbers count made) conflictAt name
@@ -264,11 +273,8 @@ module _ {book numbers : List ℕ} {walk : Walk} {other : ℕ} {dead : Bool} (se
     within : literalWithin (variablesOf book) other ≡ true
     within = ap (literalWithin (variablesOf book)) (seeking .other-is) ∙ other-within at
 
-    unfalse : dead ≡ false → isFalse trail other ≡ false
-    unfalse e = sym (seeking .unfalse) ∙ e
-
     -- an assignment has what it asks
-    pub implied-asks : dead ≡ false → (vars many count : ℕ) → vars ≡ variablesOf book → many ≡ clausesOf book
+    pub implied-asks : value ≡ Open → (vars many count : ℕ) → vars ≡ variablesOf book → many ≡ clausesOf book
         → count ≡ checksAt vars many + clauseOfNode (walk .node)
         → (getD (countNums numbers count made) lengthAt 0 < variablesOf book) × (2 ≤ other) × (variableOf other ≤ variablesOf book)
     unfolding counted
@@ -280,7 +286,7 @@ module _ {book numbers : List ℕ} {walk : Walk} {other : ℕ} {dead : Bool} (se
           let b = bounds .1 in omega arith,
         )
 
-    pub visited-implied : dead ≡ false → (vars many count level : ℕ) (after : List ℕ) (next : Walk) → vars ≡ variablesOf book → many ≡ clausesOf book
+    pub visited-implied : value ≡ Open → (vars many count level : ℕ) (after : List ℕ) (next : Walk) → vars ≡ variablesOf book → many ≡ clausesOf book
         → count ≡ checksAt vars many + clauseOfNode (walk .node)
         → level ≡ getD (countNums numbers count made) decisionsAt 0
         → after ≡ assignNums vars (countNums numbers count made) other level

@@ -15,7 +15,7 @@ use Rattle.book.proofs.PartLaws.{clause-inside, clause-of-formula, clauses-coun
 use Rattle.book.proofs.SoundLaws.{literal-parts}
 use Rattle.book.proofs.WellFormedLaws.{well-formed-parted, well-formed-sound}
 use Rattle.base.specs.Lists.{distinct}
-use Rattle.run.specs.Trail.{Entry, variablesOn, isTrue, isFalse}
+use Rattle.run.specs.Trail.{Entry, variablesOn, isTrue}
 use Rattle.run.specs.Run.{Run, clauseOf, size, cellOf, otherWatch, action, performAction, visit}
 use Rattle.run.proofs.Clauses.{clause-exists, literal-within}
 use Rattle.run.specs.Progress.{Watched, Trailed}
@@ -30,13 +30,14 @@ use Rattle.layout.proofs.ChainLaws.{node-between}
 use Rattle.layout.proofs.ValueLaws.{held-reads}
 use Rattle.engine.specs.Engine.{SameBehind}
 use Rattle.engine.specs.Inner.Lists.{Lists, Standing, KeptOn, linked}
-use Rattle.engine.specs.Inner.Visit.{Visiting, VisitSays, Visited, otherNode, Seeking}
+use Rattle.engine.specs.Inner.Visit.{Visiting, VisitSays, Visited, otherNode, tellsTrue, Seeking}
 use Rattle.engine.specs.declared.lists.Walk.{Walk}
 use Rattle.engine.specs.declared.visit.Visit.{Visit}
 use Rattle.engine.specs.declared.visit.Visit.the-variants as v
 use Rattle.engine.proofs.lists.FrameLaws.{lists-of}
 use Rattle.engine.proofs.lists.WalkLaws.{walking-node, walking-stands}
-use Rattle.engine.proofs.scan.Laws.{ValueSays, reads-says}
+use Rattle.engine.specs.Inner.Scan.{ValueSays}
+use Rattle.engine.proofs.scan.Laws.{reads-says}
 
 -- the clause of a node
 -- the literals of a clause, where they stand in the book
@@ -196,6 +197,12 @@ module _ {book numbers : List ℕ} {walk : Walk} (at : Visiting book numbers wal
       held-says (at .encodes .trail) (visited-trailed .once) (let s = spot .fits .long in omega arith) l (other-bounded l l-is .0) (other-bounded l l-is .1) r
       (rw vars-is at r-is)
 
+  -- it tells whether the literal is true
+  says-told : (l : ℕ) (value : Value) → ValueSays (at .run .trail) l value → tellsTrue value ≡ isTrue (at .run .trail) l
+  says-told l Open says = sym (says .0)
+  says-told l True says = sym (says .0)
+  says-told l False says = sym (says .0)
+
   -- the run after a visit, whichever it is
   pub visited-by : (after : List ℕ) (r : Visit) (run : Run) → visit (formulaOf book) (at .q) (at .clause) (at .run) ≡ run
       → Encodes (formulaOf book) after run
@@ -207,32 +214,27 @@ module _ {book numbers : List ℕ} {walk : Walk} (at : Visiting book numbers wal
   -- the other watch is true: the clause stays
   pub visited-stays : (vars many l : ℕ) (next : Walk) → vars ≡ variablesOf book → many ≡ clausesOf book
       → l ≡ otherWatch (clauseOf (formulaOf book) (at .clause)) (cellOf (at .run) (at .clause)) (at .q)
-      → True ≡ valueRead (getD numbers (valueSlot vars l) 0) l
+      → (r : Value) → r ≡ valueRead (getD numbers (valueSlot vars l) 0) l → tellsTrue r ≡ true
       → KeptOn linked vars many numbers walk next → Visited book numbers numbers at (v.GoOn next)
   unfolding visit action performAction
-  visited-stays vars many l next vars-is many-is l-is r-is kept =
+  visited-stays vars many l next vars-is many-is l-is r r-is told kept =
       visited-by numbers (v.GoOn next) (at .run) (rw t) (at .encodes) refl refl
       (at .reading .going .quiet, (at .passed ++ (c ∷ []), (rw (vars-is, many-is) at kept) .walking visited-lists (at .walking)))
     where
       t : isTrue (at .run .trail) other ≡ true
-      t = ap (isTrue (at .run .trail)) (sym l-is) ∙ other-says vars l True vars-is l-is r-is .0
+      t = ap (isTrue (at .run .trail)) (sym l-is) ∙ sym (says-told l r (other-says vars l r vars-is l-is r-is)) ∙ told
 
   -- it is not: a new watch is sought
-  module _ (vars l : ℕ) (dead : Bool) (vars-is : vars ≡ variablesOf book)
+  module _ (vars l : ℕ) (value : Value) (vars-is : vars ≡ variablesOf book)
       (l-is : l ≡ otherWatch (clauseOf (formulaOf book) (at .clause)) (cellOf (at .run) (at .clause)) (at .q))
-      (r-is : cond dead False Open ≡ valueRead (getD numbers (valueSlot vars l) 0) l) where
-    not-true : (isTrue (at .run .trail) l ≡ false) × (dead ≡ isFalse (at .run .trail) l)
-    not-true = go dead r-is
-      where
-        go : (b : Bool) → cond b False Open ≡ valueRead (getD numbers (valueSlot vars l) 0) l
-            → (isTrue (at .run .trail) l ≡ false) × (b ≡ isFalse (at .run .trail) l)
-        go true e = let said = other-says vars l False vars-is l-is e in (said .0, sym (said .1))
-        go false e = let said = other-says vars l Open vars-is l-is e in (said .0, sym (said .1))
+      (r-is : value ≡ valueRead (getD numbers (valueSlot vars l) 0) l) (told : tellsTrue value ≡ false) where
+    value-says : ValueSays (at .run .trail) l value
+    value-says = other-says vars l value vars-is l-is r-is
 
-    pub visited-seeks : Seeking book numbers walk l dead
-    visited-seeks = record { at = at; other-is = l-is; untrue = not-true .0; unfalse = not-true .1 }
+    pub visited-seeks : Seeking book numbers walk l value
+    visited-seeks = record { at = at; other-is = l-is; untrue = sym (says-told l value value-says) ∙ told; says = value-says }
 
     pub visited-sought : (after : List ℕ) (r : Visit)
-        → ((seeking : Seeking book numbers walk l dead) → Visited book numbers after (seeking .at) r) → Visited book numbers after at r
+        → ((seeking : Seeking book numbers walk l value) → Visited book numbers after (seeking .at) r) → Visited book numbers after at r
     unfolding visited-seeks
     visited-sought after r h = h visited-seeks

@@ -8,14 +8,17 @@ use lib.ListN.{length, getD, set}
 use Rattle.base.specs.Lists.{distinct}
 use Rattle.book.specs.Formula.{Formula, variableOf}
 use Rattle.book.specs.Numbers.{formulaOf, wellFormed, clausesOf}
-use Rattle.run.specs.Trail.{Entry, isTrue, isFalse}
+use Rattle.run.specs.Trail.{Entry, isTrue}
 use Rattle.run.specs.Run.{Run, visit, inConflict, clauseOf, size, cellOf, otherWatch, maxCount}
 use Rattle.run.specs.Valid.{Watching}
 use Rattle.run.specs.Progress.{ReadingList}
 use Rattle.layout.specs.Layout.{pointersAt, clauseOfNode, watchSlot}
 use Rattle.layout.specs.Encodes.{Encodes}
+use Rattle.layout.specs.declared.values.Value.{Value}
+use Rattle.layout.specs.declared.values.Value.the-variants.{Open, True, False}
 use Rattle.engine.specs.Engine.{SameBehind}
 use Rattle.engine.specs.Inner.Lists.{Walking, linked}
+use Rattle.engine.specs.Inner.Scan.{ValueSays}
 use Rattle.engine.specs.declared.lists.Walk.{Walk}
 use Rattle.engine.specs.declared.visit.Visit.{Visit}
 use Rattle.engine.specs.declared.visit.Visit.the-variants as v
@@ -67,9 +70,15 @@ pub record Scannable (book numbers : List ℕ) (c : ℕ) : Type 0 where
   pub inside : c < clausesOf book
   pub watching : Watching (size (formulaOf book) c) (cellOf run c)
 
--- The other watch of the clause is not true; whether it is false is known.
-pub record Seeking (book numbers : List ℕ) (walk : Walk) (other : ℕ) (dead : Bool) : Type 0 where
+-- whether a value is true
+abbrev pub tellsTrue : Value → Bool
+tellsTrue Open = false
+tellsTrue True = true
+tellsTrue False = false
+
+-- The other watch of the clause is not true, and its value is known.
+pub record Seeking (book numbers : List ℕ) (walk : Walk) (other : ℕ) (value : Value) : Type 0 where
   pub at : Visiting book numbers walk
   pub other-is : other ≡ otherWatch (clauseOf (formulaOf book) (at .clause)) (cellOf (at .run) (at .clause)) (at .q)
   pub untrue : isTrue (at .run .trail) other ≡ false
-  pub unfalse : dead ≡ isFalse (at .run .trail) other
+  pub says : ValueSays (at .run .trail) other value

@@ -15,7 +15,7 @@ use Rattle.layout.specs.Layout.{TrailFits}
 use Rattle.engine.specs.Inner.Trail.{assignNums}
 use Rattle.engine.specs.Inner.Opening.{Units, UnitDone}
 use Rattle.layout.specs.declared.values.Value.the-variants as t
-use Rattle.engine.proofs.scan.Laws.{ValueSays}
+use Rattle.engine.specs.Inner.Scan.{ValueSays}
 use Rattle.engine.proofs.opening.Laws.{ClauseRead, clause-read, unit-value, unit-other, unit-true, unit-false, unit-room, unit-open}
 use Rattle.engine.proofs.opening.assign_unit.Statement.{statement}
 use Rattle.engine.proofs.opening.assign_unit.Tie as tie

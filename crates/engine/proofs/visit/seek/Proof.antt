@@ -17,7 +17,7 @@ use Rattle.engine.specs.declared.lists.Walk.{Walk}
 use Rattle.engine.specs.declared.scan.Scan.the-variants.{Found, Nothing}
 use Rattle.layout.proofs.FitsLaws.{fits-kept, fits-trail}
 use Rattle.engine.proofs.visit.SpotLaws.{Spot, spot, spot-fits, spot-standing}
-use Rattle.engine.proofs.visit.SeekLaws.{seeking-scannable, seeking-scanned, found-literal, found-bounds, visited-moved, visited-conflict, implied-asks, visited-implied}
+use Rattle.engine.proofs.visit.SeekLaws.{seeking-scannable, seeking-scanned, found-literal, found-bounds, never-true, visited-moved, visited-conflict, implied-asks, visited-implied}
 use borrow.Author.Needs.{needs}
 use Rattle.engine.proofs.visit.seek.Statement.{statement}
 use Rattle.engine.proofs.visit.seek.Tie as tie
@@ -59,7 +59,7 @@ clauses-are : (c : tie.After-clause-of-node) → clauses c ≡ clausesOf (book c
 clauses-are c = c .before .clauses .ensures
 
 abbrev Sought : (c : tie.After-clause-of-node) → Type 0
-Sought c = Seeking (book c) (session c) (walk c) (start c .args .other) (start c .args .dead)
+Sought c = Seeking (book c) (session c) (walk c) (start c .args .other) (start c .args .value)
 
 -- the clause at which the walk stands
 spot-at : (c : tie.After-clause-of-node) → Spot (book c) (session c) (walk c)
@@ -161,11 +161,11 @@ counted-length : (c : tie.After-add-checks2) → length (c .add-checks2 .last .0
 counted-length c = ap length (c .add-checks2 .ensures) ∙ simp length-set
 
 abbrev here-before-assign : tie.After-assign → tie.After-clause-of-node
-here-before-assign c = c .before .before .before .before .before .before .before .before .before .before .before .before .before .before
+here-before-assign c = c .before .before .before .before .before .before .before .before .before .before .before .before .before .before .before
 
 assigned-length : (c : tie.After-assign) → length (c .assign .last .0) ≡ length (session (here-before-assign c))
 assigned-length c =
-    let after-add-checks2 = c .before .before .before .before .before .before in
+    let after-add-checks2 = c .before .before .before .before .before .before .before in
     ap length (c .assign .ensures) ∙ simp length-set (counted-length after-add-checks2)
 
 checks-at-requires : tie.Need-checks-at-requires
@@ -247,6 +247,21 @@ add-checks-requires-2 c κs =
     let n = count-is after-checks-at in
     omega (arith, f .long)
 
+enum-told : tie.Need-enum-told
+enum-told c = search needs
+
+abbrev checks-at-before-made : tie.After-made → tie.After-checks-at
+checks-at-before-made c = c .before .before .before .before
+
+keep-requires : tie.Need-keep-requires
+keep-requires c κs =
+    let after-add-checks2 = c .before .before .before .before .before in
+    let here = here-before-add-checks2 after-add-checks2 in
+    (fits-kept (counted-length after-add-checks2) (fits-at here), standing-at here)
+
+enum-told-2 : tie.Need-enum-told-2
+enum-told-2 c = search needs
+
 cast-session : tie.Need-cast-session
 cast-session c = search needs
 
@@ -256,47 +271,36 @@ add-session c = search needs
 slice-write-session : tie.Need-slice-write-session
 slice-write-session c = search needs
 
-same-length : tie.Need-same-length
-same-length c = search needs
-
-abbrev checks-at-before-made : tie.After-made → tie.After-checks-at
-checks-at-before-made c = c .before .before .before .before
-
-returns : tie.Need-returns
-returns c =
-    let after-made = c .before .before .before .before .before .before in
-    let after-checks-at = checks-at-before-made after-made in
-    let here = after-checks-at .before in
-    λ seeking. visited-conflict seeking _ (missed after-made seeking) (c .if1 .taken)
-    (variables here) (clauses here) _ _ _ (variables-are here) (clauses-are here)
-    (count-is after-checks-at) (ap (λ (x : ℕ). x + 1) (here .clause-of-node .ensures))
-    (ap (λ (s : List ℕ). set s conflictAt (here .clause-of-node .result + 1)) (c .before .before .before .add-checks2 .ensures))
+enum-told-3 : tie.Need-enum-told-3
+enum-told-3 c = search needs
 
 slice-read-level : tie.Need-slice-read-level
 slice-read-level c = search needs
 
 assign-requires : tie.Need-assign-requires
 assign-requires c κs =
-    let after-add-checks2 = c .before .before .before .before .before in
+    let after-enum-told3 = c .before .before in
+    let after-add-checks2 = after-enum-told3 .before .before .before .before in
     let after-made = after-add-checks2 .before .before .before in
     let after-checks-at = checks-at-before-made after-made in
     let here = after-checks-at .before in
     let f = fits-at here in
-    let asks = implied-asks (start here .pre) _ (missed after-made (start here .pre)) (c .before .before .if1 .left) (variables here) (clauses here) _ (variables-are here) (clauses-are here) (count-is after-checks-at) in
+    let asks = implied-asks (start here .pre) _ (missed after-made (start here .pre)) (after-enum-told3 .enum-told3 .given .1) (variables here) (clauses here) _ (variables-are here) (clauses-are here) (count-is after-checks-at) in
     let count = ap (λ (s : List ℕ). getD s lengthAt 0) (after-add-checks2 .add-checks2 .ensures) in
     let long = counted-length after-add-checks2 in
     (fits-trail (fits-kept long f), omega (arith, asks .0, variables-are here), asks .1, omega (arith, asks .2, variables-are here))
 
-keep-requires : tie.Need-keep-requires
-keep-requires c κs =
-    let here = c .before .before .before .before .before .before .before .before .before .before .before .before .before .before .before .before .before in
-    (fits-kept (assigned-length (c .before .before .before)) (fits-at here), standing-at here)
+keep-requires-2 : tie.Need-keep-requires-2
+keep-requires-2 c κs =
+    let after-assign = c .before .before .before in
+    let here = here-before-assign after-assign in
+    (fits-kept (assigned-length after-assign) (fits-at here), standing-at here)
 
-same-length-2 : tie.Need-same-length-2
-same-length-2 c = search needs
+same-length : tie.Need-same-length
+same-length c = search needs
 
-returns-2 : tie.Need-returns-2
-returns-2 c =
+returns : tie.Need-returns
+returns c =
     let after-push-front = c .before .before .before .before .before .before in
     let after-set-watch = after-push-front .before .before .before .before in
     let after-take-out = after-set-watch .before .before .before .before in
@@ -309,23 +313,45 @@ returns-2 c =
     (variables-are here) (clauses-are here) (count-is after-checks-at) (found after-clause-start seeking .2)
     (after-take-out .take-out .ensures) (after-set-watch .set-watch .ensures) (after-push-front .push-front .ensures) (c .before .before .add-checks .ensures)
 
+same-length-2 : tie.Need-same-length-2
+same-length-2 c = search needs
+
+returns-2 : tie.Need-returns-2
+returns-2 c =
+    let after-enum-told = c .before .before in
+    λ seeking. absurd (never-true seeking (after-enum-told .enum-told .given .1))
+
 same-length-3 : tie.Need-same-length-3
 same-length-3 c = search needs
 
 returns-3 : tie.Need-returns-3
 returns-3 c =
-    let after-assign = c .before .before .before .before in
-    let else1 = after-assign .before .before .before in
-    let after-add-checks2 = else1 .before .before .before in
+    let after-add-checks2 = c .before .before .before .before in
     let after-made = after-add-checks2 .before .before .before in
     let after-checks-at = checks-at-before-made after-made in
     let here = after-checks-at .before in
-    λ seeking. visited-implied seeking _ (missed after-made seeking) (else1 .if1 .left)
-    (variables here) (clauses here) _ (getD (after-add-checks2 .add-checks2 .last .0) decisionsAt 0) _ (c .keep .result)
+    λ seeking. visited-conflict seeking _ (missed after-made seeking) (c .enum-told2 .given .1)
+    (variables here) (clauses here) _ _ _ (variables-are here) (clauses-are here)
+    (count-is after-checks-at) (ap (λ (x : ℕ). x + 1) (here .clause-of-node .ensures))
+    (ap (λ (s : List ℕ). set s conflictAt (here .clause-of-node .result + 1)) (after-add-checks2 .add-checks2 .ensures))
+
+same-length-4 : tie.Need-same-length-4
+same-length-4 c = search needs
+
+returns-4 : tie.Need-returns-4
+returns-4 c =
+    let after-assign = c .before .before .before .before in
+    let after-enum-told3 = after-assign .before .before .before in
+    let after-add-checks2 = after-enum-told3 .before .before .before .before in
+    let after-made = after-add-checks2 .before .before .before in
+    let after-checks-at = checks-at-before-made after-made in
+    let here = after-checks-at .before in
+    λ seeking. visited-implied seeking _ (missed after-made seeking) (after-enum-told3 .enum-told3 .given .1)
+    (variables here) (clauses here) _ (getD (after-add-checks2 .add-checks2 .last .0) decisionsAt 0) _ (c .keep2 .result)
     (variables-are here) (clauses-are here) (count-is after-checks-at)
     (ap (λ (s : List ℕ). getD s decisionsAt 0) (after-add-checks2 .add-checks2 .ensures))
     (after-assign .assign .ensures ∙ ap (λ (s : List ℕ). assignNums (variables here) s (start here .args .other) (getD (after-add-checks2 .add-checks2 .last .0) decisionsAt 0)) (after-add-checks2 .add-checks2 .ensures))
-    (c .keep .ensures)
+    (c .keep2 .ensures)
 
 pub seek-spec : {M : Type 1} → statement M
 seek-spec =
@@ -349,15 +375,21 @@ seek-spec =
     add-checks-requires
     enum-known-made
     add-checks-requires-2
+    enum-told
+    keep-requires
+    enum-told-2
     cast-session
     add-session
     slice-write-session
-    same-length
-    returns
+    enum-told-3
     slice-read-level
     assign-requires
-    keep-requires
+    keep-requires-2
+    same-length
+    returns
     same-length-2
     returns-2
     same-length-3
-    returns-3)
+    returns-3
+    same-length-4
+    returns-4)

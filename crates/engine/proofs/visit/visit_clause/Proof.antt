@@ -1,6 +1,5 @@
 -- `visit_clause` meets its contract: the value of the other watch says what is done. Assumes nothing.
 use Prim.Native.Nat.{ℕ, _+_, _<_}
-use mathlib.Core.Bool.{true, false}
 use mathlib.Core.List.{List}
 use mathlib.Core.Path.{_≡_, sym, ap, ap₂, _∙_}
 use native.Mathlib.Omega.{arith}
@@ -150,8 +149,8 @@ literal-value-requires c κs =
     let b = other-bounded (start here .pre) _ (other-at after-wide (start here .pre) .1) in
     (fits-trail (fits-at here), b .0, omega (arith, b .1, variables-are here))
 
-enum-told : tie.Need-enum-told
-enum-told c = search needs
+is-true-requires : tie.Need-is-true-requires
+is-true-requires c κs = search needs
 
 keep-requires : tie.Need-keep-requires
 keep-requires c κs =
@@ -159,60 +158,39 @@ keep-requires c κs =
     let here = here-before-wide after-wide in
     (fits-at here, standing-at here)
 
-enum-told-2 : tie.Need-enum-told-2
-enum-told-2 c = search needs
-
-seek-requires : tie.Need-seek-requires
-seek-requires c κs =
-    let after-wide = c .before .before .before .before .before .before in
-    let here = here-before-wide after-wide in
-    visited-seeks (start here .pre) (variables here) _ true (variables-are here) (other-at after-wide (start here .pre) .1)
-    (sym (c .before .enum-told2 .given .1) ∙ c .before .before .before .literal-value .ensures)
-
-enum-told-3 : tie.Need-enum-told-3
-enum-told-3 c = search needs
-
-seek-requires-2 : tie.Need-seek-requires-2
-seek-requires-2 c κs =
-    let after-wide = c .before .before .before .before .before .before in
-    let here = here-before-wide after-wide in
-    visited-seeks (start here .pre) (variables here) _ false (variables-are here) (other-at after-wide (start here .pre) .1)
-    (sym (c .before .enum-told3 .given .1) ∙ c .before .before .before .literal-value .ensures)
-
 same-length : tie.Need-same-length
 same-length c = search needs
 
 returns : tie.Need-returns
 returns c =
-    let after-literal-value = c .before .before .before .before in
+    let after-is-true = c .before .before .before in
+    let after-literal-value = after-is-true .before in
     let after-wide = after-literal-value .before .before .before in
     let here = here-before-wide after-wide in
     λ at. visited-stays at (variables here) (clauses here) _ (c .keep .result) (variables-are here) (clauses-are here) (other-at after-wide at .1)
-    (sym (c .before .before .enum-told .given .1) ∙ after-literal-value .literal-value .ensures) (c .keep .ensures)
+    (after-literal-value .literal-value .result) (after-literal-value .literal-value .ensures) (sym (after-is-true .is-true .ensures) ∙ c .before .before .if1 .taken) (c .keep .ensures)
+
+seek-requires : tie.Need-seek-requires
+seek-requires c κs =
+    let after-is-true = c .before .before in
+    let after-literal-value = after-is-true .before in
+    let after-wide = after-literal-value .before .before .before in
+    let here = here-before-wide after-wide in
+    visited-seeks (start here .pre) (variables here) _ (after-literal-value .literal-value .result) (variables-are here) (other-at after-wide (start here .pre) .1)
+    (after-literal-value .literal-value .ensures) (sym (after-is-true .is-true .ensures) ∙ c .before .if1 .left)
 
 same-length-2 : tie.Need-same-length-2
 same-length-2 c = search needs
 
 returns-2 : tie.Need-returns-2
 returns-2 c =
-    let after-enum-told2 = c .before .before .before .before in
-    let after-literal-value = after-enum-told2 .before .before in
+    let else1 = c .before .before .before .before in
+    let after-is-true = else1 .before in
+    let after-literal-value = after-is-true .before in
     let after-wide = after-literal-value .before .before .before in
     let here = here-before-wide after-wide in
-    λ at. visited-sought at (variables here) _ true (variables-are here) (other-at after-wide at .1)
-    (sym (after-enum-told2 .enum-told2 .given .1) ∙ after-literal-value .literal-value .ensures) _ _ (c .before .before .seek .ensures)
-
-same-length-3 : tie.Need-same-length-3
-same-length-3 c = search needs
-
-returns-3 : tie.Need-returns-3
-returns-3 c =
-    let after-enum-told3 = c .before .before .before .before in
-    let after-literal-value = after-enum-told3 .before .before in
-    let after-wide = after-literal-value .before .before .before in
-    let here = here-before-wide after-wide in
-    λ at. visited-sought at (variables here) _ false (variables-are here) (other-at after-wide at .1)
-    (sym (after-enum-told3 .enum-told3 .given .1) ∙ after-literal-value .literal-value .ensures) _ _ (c .before .before .seek2 .ensures)
+    λ at. visited-sought at (variables here) _ (after-literal-value .literal-value .result) (variables-are here) (other-at after-wide at .1)
+    (after-literal-value .literal-value .ensures) (sym (after-is-true .is-true .ensures) ∙ else1 .if1 .left) _ _ (c .before .before .seek .ensures)
 
 pub visit-clause-spec : {M : Type 1} → statement M
 visit-clause-spec =
@@ -231,15 +209,10 @@ visit-clause-spec =
     mul-other
     shared-slice-read-other
     literal-value-requires
-    enum-told
+    is-true-requires
     keep-requires
-    enum-told-2
-    seek-requires
-    enum-told-3
-    seek-requires-2
     same-length
     returns
+    seek-requires
     same-length-2
-    returns-2
-    same-length-3
-    returns-3)
+    returns-2)
