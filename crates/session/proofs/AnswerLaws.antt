@@ -5,21 +5,21 @@ use Rattle.book.specs.Formula.{maxVariables, literalWithin}
 use Rattle.session.proofs.PassedLaws.{refused-first, none-first, well, own-refusal, facts, holding, long, conflict-is, decisions-are, count-is, count-within, backtracks-are}
 use Rattle.session.proofs.OpenLaws.{head-answer, becomes-overwritten}
 use Prim.Native.Nat.{ℕ, suc, _+_, _*_, _≤_, _<_}
-use mathlib.Core.Path.{_≡_, refl, ap, sym, _∙_}
+use mathlib.Core.Path.{_≡_, refl, sym, _∙_}
 use mathlib.Core.Bool.{and-false, Bool, true, false, cond, _&&_, _||_}
 use mathlib.Core.List.{List}
 use native.Mathlib.Omega.{arith}
 use borrow.Author.Tests.{eq-eqb, ne-eqb, le-leb, lt-leb}
 use lib.Dec.{leb}
-use lib.ListN.{length, getD, length-append}
+use lib.ListN.{length, getD}
 use Rattle.book.specs.Numbers.{formulaOf, variablesOf, clausesOf}
 use Rattle.book.proofs.WellFormedLaws.{well-formed-sound}
 use Rattle.run.specs.Trail.{isTrue, isFalse, decisions}
 use Rattle.run.specs.Run.{Run, decide, backtrack}
 use Rattle.run.specs.Calls.{decideRefusal, backtrackRefusal, maxBacktracks}
-use Rattle.run.proofs.Theorems.{decide-valid, backtrack-valid, decide-extends}
+use Rattle.run.proofs.Theorems.{decide-valid, backtrack-valid, decide-longer}
 use Rattle.validation.specs.Validation.{readRefusal}
-use Rattle.session.specs.Outcomes.{sessionDecideRefusal, decideAnswer, decideNumbers, sessionBacktrackRefusal, backtrackAnswer, backtrackNumbers, lookupRefusal, lookupAnswer, assignedIn, figuresAnswer, totalAnswer, copyAnswer, copyNumbers}
+use Rattle.session.specs.Outcomes.{sessionDecideRefusal, decideAnswer, decideNumbers, sessionBacktrackRefusal, backtrackAnswer, backtrackNumbers, lookupRefusal, lookupAnswer, figuresAnswer, totalAnswer, copyAnswer, copyNumbers}
 use Rattle.layout.specs.Values.{valueIn}
 use Rattle.engine.specs.Engine.{Becomes, Holding}
 use Rattle.session.specs.Inner.Answers.{headAnswer}
@@ -126,7 +126,7 @@ module _ (book session : List ℕ) where
     shownAs value.False = assigned.Negative
 
     pub variable-is : (v : ℕ) → (v ≡ 0 → ⊥) → v ≤ variablesOf book → shownAs (valueIn (held (formulaOf book) session .trail) (2 * v)) ≡ lookupAnswer book session v
-    unfolding lookupAnswer lookupRefusal assignedIn valueIn
+    unfolding lookupAnswer lookupRefusal valueIn
     variable-is v n h =
         rw (own-refusal book session none (λ (run : Run). cond (leb 1 v && leb v (variablesOf book)) 0 13), le-leb 1 v (omega (arith, n)), le-leb v (variablesOf book) h, opposite-positive v)
         (go (isTrue (held (formulaOf book) session .trail) (2 * v)) (isTrue (held (formulaOf book) session .trail) (2 * v + 1)))
@@ -187,9 +187,7 @@ module _ (book session : List ℕ) where
 
     pub decide-grows : (now : List ℕ) → Becomes book session now (decide (formulaOf book) l (held (formulaOf book) session)) → getD session lengthAt 0 + 1 ≤ getD now lengthAt 0
     decide-grows now b =
-        let more = decide-extends (formulaOf book) l (held (formulaOf book) session) in
-        let long : length (decide (formulaOf book) l (held (formulaOf book) session) .trail) ≡ length (more .0) + suc (length (held (formulaOf book) session .trail))
-        = ap length (more .2) ∙ length-append (more .0) _ in
+        let longer = decide-longer (formulaOf book) l (held (formulaOf book) session) in
         omega (arith, count-is book session decide-none, b .encodes .trail .count)
 
     abbrev pub decide-holding : Holding book session

@@ -17,7 +17,7 @@ use Rattle.run.specs.Valid.{Valid}
 use Rattle.run.proofs.Theorems.{open-valid, step-valid}
 use Rattle.layout.specs.Layout.{SessionFits, requiredLength, encode, held}
 use Rattle.validation.specs.Validation.{passes, callRefusal}
-use Rattle.session.specs.Outcomes.{overwritten, openRefusal, openNumbers, sessionDecideRefusal, decideNumbers, sessionBacktrackRefusal, backtrackNumbers, callNumbers, playedNumbers, replayNumbers}
+use Rattle.session.specs.Outcomes.{accepted, refused, sessionAfter, overwritten, openRefusal, openNumbers, sessionDecideRefusal, decideNumbers, sessionBacktrackRefusal, backtrackNumbers, callNumbers, playedNumbers, replayNumbers}
 use Rattle.layout.proofs.EncodeLaws.{length-encode}
 use Rattle.layout.proofs.HeldLaws.{held-encode}
 use Rattle.validation.proofs.PassLaws.{passes-encode}
@@ -44,20 +44,20 @@ module _ (book buffer : List ℕ) (well : wellFormed book ≡ true) (run : Run) 
   call-refusal own = rw (well, passes-overwritten) (ap own held-overwritten)
 
   -- a call leaves the numbers of the run's next step
-  chosen : (b : Bool) (next : Run)
-      → cond b (overwritten (formulaOf book) next (overwritten (formulaOf book) run buffer)) (overwritten (formulaOf book) run buffer)
+  chosen : (b : Bool) (number : ℕ) (next : Run)
+      → sessionAfter (formulaOf book) (overwritten (formulaOf book) run buffer) (cond b (accepted next) (refused number))
       ≡ overwritten (formulaOf book) (cond b next run) buffer
-  chosen true next = overwritten-again (formulaOf book) run next buffer
-  chosen false next = refl
+  chosen true number next = overwritten-again (formulaOf book) run next buffer
+  chosen false number next = refl
 
   pub call-numbers : (call : Call) → callNumbers book (overwritten (formulaOf book) run buffer) call ≡ overwritten (formulaOf book) (step (formulaOf book) run call) buffer
   unfolding callNumbers decideNumbers sessionDecideRefusal backtrackNumbers sessionBacktrackRefusal step refusal performCall
   call-numbers (decision l) =
       rw (call-refusal (decideRefusal (formulaOf book) l), held-overwritten)
-      (chosen (eqb (decideRefusal (formulaOf book) l run) 0) (decide (formulaOf book) l run))
+      (chosen (eqb (decideRefusal (formulaOf book) l run) 0) (decideRefusal (formulaOf book) l run) (decide (formulaOf book) l run))
   call-numbers (backtrackBy k) =
       rw (call-refusal (backtrackRefusal k), held-overwritten)
-      (chosen (eqb (backtrackRefusal k run) 0) (backtrack k run))
+      (chosen (eqb (backtrackRefusal k run) 0) (backtrackRefusal k run) (backtrack k run))
 
 pub played : (book buffer : List ℕ) → wellFormed book ≡ true → (calls : List Call) (run : Run) → Valid (formulaOf book) run
     → playedNumbers book (overwritten (formulaOf book) run buffer) calls ≡ overwritten (formulaOf book) (stepAll (formulaOf book) run calls) buffer

@@ -3,5 +3,6 @@ pub mod CallLaws
 pub mod OpenLaws
 pub mod PassedLaws
 pub mod AnswerLaws
+pub mod ReportLaws
 pub mod Statements
 pub mod ReplayLaws

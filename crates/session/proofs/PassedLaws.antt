@@ -21,14 +21,14 @@ use Rattle.run.specs.Valid.{Valid}
 use Rattle.run.proofs.Propagation.{valid-structure}
 use Rattle.run.proofs.Validity.{trail-short}
 use Rattle.validation.specs.Validation.{passes, callRefusal, readRefusal}
-use Rattle.session.specs.Outcomes.{sessionDecideRefusal, sessionBacktrackRefusal, figuresAnswer, figuresOf, totalAnswer, copyAnswer, copyNumbers}
+use Rattle.session.specs.Outcomes.{sessionDecideRefusal, sessionBacktrackRefusal, figuresAnswer, totalAnswer, copyAnswer, copyNumbers}
 use Rattle.layout.specs.Encodes.{Encodes}
 use Rattle.layout.specs.Values.{valueRead, valueIn}
 use Rattle.engine.specs.Engine.{Holding}
 use Rattle.layout.specs.declared.values.Value.{Value}
 use Rattle.base.proofs.Lists.{part-taken}
 use Rattle.base.proofs.Tables.{getD-table, length-table}
-use Rattle.validation.proofs.PassLaws.{passes-iff}
+use Rattle.validation.proofs.PassLaws.{passes-encodes}
 use Rattle.session.specs.declared.Shown.the-variants as shown
 use Rattle.session.specs.declared.Count.the-variants as count
 use Rattle.session.specs.declared.Sum.the-variants as total
@@ -82,7 +82,7 @@ module _ (book session : List ℕ) where
     own-refusal own = rw (well, passed none .1)
 
     pub facts : Valid (formulaOf book) (held (formulaOf book) session) × Encodes (formulaOf book) session (held (formulaOf book) session)
-    facts = passes-iff (formulaOf book) (well-formed-sound book well) session .0 (passed none .1)
+    facts = passes-encodes (formulaOf book) (well-formed-sound book well) session .0 (passed none .1)
 
     abbrev pub holding : Holding book session
     holding = record { well = well; run = held (formulaOf book) session; encodes = facts .1; valid = facts .0 }
@@ -130,7 +130,7 @@ module _ (book session : List ℕ) where
     backtracks-are = facts .1 .backtracks
 
     pub figures-are : shown.Of (getD session decisionsAt 0) (getD session backtracksAt 0) (getD session lengthAt 0) (getD session conflictAt 0) ≡ figuresAnswer book session
-    unfolding figuresAnswer figuresOf
+    unfolding figuresAnswer
     figures-are = rw (← none, conflict-is, decisions-are, count-is, backtracks-are)
 
     -- the part of the counts of checks

@@ -1,26 +1,85 @@
 -- Statements 2 and 3 of the service description, proved of the outcomes that the contracts cite.
-use Prim.Native.Nat.{ℕ}
-use mathlib.Core.Path.{_≡_, ap, sym, _∙_}
-use mathlib.Core.Bool.{true}
-use mathlib.Core.List.{List}
+use Prim.Native.Nat.{ℕ, _≤_, _<_}
+use mathlib.Core.Path.{_≡_, refl, ap, sym, _∙_}
+use mathlib.Core.Bool.{Bool, true, false, cond, _&&_, _||_}
+use mathlib.Core.Logic.{_↔_}
+use mathlib.Core.List.{List, []}
 use native.Mathlib.Omega.{arith}
+use borrow.Author.Tests.{le-leb}
+use lib.Dec.{leb}
 use lib.ListN.{length}
+use Rattle.base.proofs.Bools.{never}
 use Rattle.base.specs.Lists.{sum}
-use Rattle.book.specs.Numbers.{wellFormed, formulaOf}
+use Rattle.book.specs.Formula.{positive, negative}
+use Rattle.book.specs.Numbers.{wellFormed, formulaOf, variablesOf, clausesOf}
 use Rattle.book.proofs.WellFormedLaws.{well-formed-sound}
-use Rattle.run.specs.Run.{Run, openRun}
-use Rattle.run.specs.Calls.{Call, step, reference}
+use Rattle.run.specs.Trail.{Entry, place, isTrue, isAssigned, isMet}
+use Rattle.run.proofs.Trails.{true-place, place-untrue, consistent}
+use Rattle.run.specs.Run.{Run, clauseOf, openRun, decide, backtrack}
+use Rattle.run.specs.Calls.{Call, backtrackBy, backtrackRefusal, refusal, performCall, step, reference}
 use Rattle.run.specs.Valid.{Valid}
-use Rattle.run.proofs.Theorems.{open-valid, step-valid, reference-valid, assigned-is-closure, conflict-is-both-ways, conflict-clause-false}
-use Rattle.run.proofs.Ceiling.{ceiling-in-period, ceiling-in-all, units-cost-nothing}
-use Rattle.layout.specs.Layout.{held}
-use Rattle.session.specs.Outcomes.{overwritten, totalAnswer, openNumbers, callNumbers, openRefusal}
+use Rattle.run.proofs.Theorems.{open-valid, decide-valid, backtrack-valid, step-valid, reference-valid, assigned-is-closure, conflict-is-both-ways, conflict-clause-false, backtrack-keeps, nothing-open-all-met}
+use Rattle.run.proofs.Ceiling.{ceiling-in-period, ceiling-in-all, checks-by-period, counts-never-saturate, units-cost-nothing}
+use Rattle.layout.specs.Layout.{requiredLength, maxSession, held}
+use Rattle.session.specs.Outcomes.{outcome, countOf, overwritten, requiredAnswer, totalAnswer, openAnswer, openNumbers, openRefusal, sessionDecideRefusal, decideAnswer, decideNumbers, backtrackNumbers, lookupRefusal, lookupAnswer, callNumbers, replayNumbers}
 use Rattle.validation.specs.Validation.{readRefusal}
-use Rattle.session.specs.Statement.{Statement2, Statement3}
+use Rattle.session.specs.Statement.{Statement2, OpenReported, DecideReported, Replayed}
 use Rattle.session.specs.declared.Sum.the-variants.{Checks}
+use Rattle.session.specs.declared.Assigned.the-variants.{Open, Positive, Negative}
+use Rattle.session.specs.declared.Count.the-variants.{Of}
+use Rattle.layout.proofs.TrailLaws.{opposite-positive}
+use Rattle.layout.proofs.FitsLaws.{required-most}
 use Rattle.layout.proofs.EncodeLaws.{encodes-whole}
 use Rattle.session.proofs.CallLaws.{held-overwritten, passes-overwritten, call-refusal, call-numbers, open-accepted, replayed}
-use Rattle.session.proofs.PassedLaws.{well, facts}
+use Rattle.session.proofs.OpenLaws.{open-none}
+use Rattle.session.proofs.PassedLaws.{well, facts, own-refusal}
+use Rattle.session.proofs.AnswerLaws.{decide-none, decide-own}
+use Rattle.session.proofs.ReportLaws.{open-run-reported, decide-run-reported}
+
+-- what lookup answers, by the two literals of the variable
+module _ (book session : List ℕ) (e : readRefusal book session ≡ 0) (v : ℕ) (low : 1 ≤ v) (high : v ≤ variablesOf book) where
+  abbrev trail : List Entry
+  trail = held (formulaOf book) session .trail
+
+  lookup-by : (t f : Bool) → isTrue trail (positive v) ≡ t → isTrue trail (negative v) ≡ f
+      → lookupAnswer book session v ≡ cond t Positive (cond f Negative Open)
+  unfolding lookupAnswer lookupRefusal
+  lookup-by t f p q =
+      rw (own-refusal book session (sym e) (λ (run : Run). cond (leb 1 v && leb v (variablesOf book)) 0 13), le-leb 1 v low, le-leb v (variablesOf book) high, p, q)
+
+  not-both : isTrue trail (positive v) ≡ true → isTrue trail (negative v) ≡ true → ⊥
+  not-both t f =
+      let once = facts book session (sym e) .0 .trail-distinct in
+      let none = consistent trail (positive v) once (true-place trail (positive v) t) in
+      never f (place-untrue trail (negative v) (ap (place trail) (sym (opposite-positive v)) ∙ none))
+
+  shows-positive : (lookupAnswer book session v ≡ Positive) ↔ (isTrue trail (positive v) ≡ true)
+  shows-positive = (λ a. go (isTrue trail (positive v)) (isTrue trail (negative v)) refl refl a, λ t. lookup-by true (isTrue trail (negative v)) t refl)
+    where
+      go : (t f : Bool) → isTrue trail (positive v) ≡ t → isTrue trail (negative v) ≡ f → lookupAnswer book session v ≡ Positive → t ≡ true
+      go true f p q a = refl
+      go false true p q a = let w : Negative ≡ Positive = sym (lookup-by false true p q) ∙ a in let z : _≡_ {A = ℕ} 0 1 = cc in absurd (omega arith)
+      go false false p q a = let w : Open ≡ Positive = sym (lookup-by false false p q) ∙ a in let z : _≡_ {A = ℕ} 0 1 = cc in absurd (omega arith)
+
+  shows-negative : (lookupAnswer book session v ≡ Negative) ↔ (isTrue trail (negative v) ≡ true)
+  shows-negative = (λ a. go (isTrue trail (positive v)) (isTrue trail (negative v)) refl refl a, λ f. back (isTrue trail (positive v)) refl f)
+    where
+      go : (t f : Bool) → isTrue trail (positive v) ≡ t → isTrue trail (negative v) ≡ f → lookupAnswer book session v ≡ Negative → f ≡ true
+      go true f p q a = let w : Positive ≡ Negative = sym (lookup-by true f p q) ∙ a in let z : _≡_ {A = ℕ} 0 1 = cc in absurd (omega arith)
+      go false true p q a = refl
+      go false false p q a = let w : Open ≡ Negative = sym (lookup-by false false p q) ∙ a in let z : _≡_ {A = ℕ} 0 1 = cc in absurd (omega arith)
+
+      back : (t : Bool) → isTrue trail (positive v) ≡ t → isTrue trail (negative v) ≡ true → lookupAnswer book session v ≡ Negative
+      back true p f = absurd (not-both p f)
+      back false p f = lookup-by false true p f
+
+  shown-assigned : (lookupAnswer book session v ≡ Open → ⊥) → isAssigned trail (positive v) ≡ true
+  shown-assigned n = rw (opposite-positive v) (go (isTrue trail (positive v)) (isTrue trail (negative v)) refl refl)
+    where
+      go : (t f : Bool) → isTrue trail (positive v) ≡ t → isTrue trail (negative v) ≡ f → (t || f) ≡ true
+      go true f p q = refl
+      go false true p q = refl
+      go false false p q = absurd (n (lookup-by false false p q))
 
 pub statement-2 : (book session : List ℕ) → readRefusal book session ≡ 0 → Statement2 book session
 statement-2 book session e =
@@ -31,6 +90,14 @@ statement-2 book session e =
       closure = assigned-is-closure (formulaOf book) run s valid;
       both-ways = conflict-is-both-ways (formulaOf book) run s valid;
       conflict-clause = conflict-clause-false (formulaOf book) run valid;
+      shown-positive = λ quiet v low high.
+          let shows = shows-positive book session e v low high in
+          let closed = assigned-is-closure (formulaOf book) run s valid quiet (positive v) in
+          (λ a. closed .0 (shows .0 a), λ k. shows .1 (closed .1 k));
+      shown-negative = λ quiet v low high.
+          let shows = shows-negative book session e v low high in
+          let closed = assigned-is-closure (formulaOf book) run s valid quiet (negative v) in
+          (λ a. closed .0 (shows .0 a), λ k. shows .1 (closed .1 k));
     }
 
 -- valid in, valid out: statement 2 holds after every accepted opening on any lent numbers, and after every call, refused or not
@@ -65,19 +132,85 @@ unfolding totalAnswer readRefusal
 total-after book buffer well run valid =
     rw (call-refusal book buffer well run valid (λ (r : Run). 0), held-overwritten book buffer well run valid)
 
-pub statement-3 : (book buffer : List ℕ) (calls : List Call) → openRefusal book (length buffer) ≡ 0 → Statement3 book buffer calls
-statement-3 book buffer calls e =
-    let well : wellFormed book ≡ true = open-accepted book buffer e .well in
-    let s = well-formed-sound book well in
+-- the numbers that an accepted opening and an accepted decision leave hold the run that they lead to
+pub open-holds : (book buffer : List ℕ) → openRefusal book (length buffer) ≡ 0 → held (formulaOf book) (openNumbers book buffer) ≡ openRun (formulaOf book)
+unfolding openNumbers
+open-holds book buffer e =
+    let ok : wellFormed book ≡ true = open-accepted book buffer e .well in
+    rw e (held-overwritten book buffer ok (openRun (formulaOf book)) (open-valid (formulaOf book) (well-formed-sound book ok)))
+
+pub open-reported : (book buffer : List ℕ) → openRefusal book (length buffer) ≡ 0 → OpenReported book buffer
+unfolding openAnswer
+open-reported book buffer e =
+    rw (open-holds book buffer e, e) (open-run-reported book (well-formed-sound book (open-accepted book buffer e .well)))
+
+module _ (book session : List ℕ) (l : ℕ) (e : sessionDecideRefusal book session l ≡ 0) where
+  abbrev before : Run
+  before = held (formulaOf book) session
+
+  decided-valid : Valid (formulaOf book) (decide (formulaOf book) l before)
+  decided-valid =
+      let none = decide-none book session l (sym e) in
+      decide-valid (formulaOf book) l before (well-formed-sound book (well book session none)) (facts book session none .0) (decide-own book session l (sym e))
+
+  pub decide-holds : held (formulaOf book) (decideNumbers book session l) ≡ decide (formulaOf book) l before
+  unfolding decideNumbers
+  decide-holds =
+      rw e (held-overwritten book session (well book session (decide-none book session l (sym e))) (decide (formulaOf book) l before) decided-valid)
+
+  pub decide-reported : DecideReported book session l
+  unfolding decideAnswer
+  decide-reported =
+      let none = decide-none book session l (sym e) in
+      rw (decide-holds, e) (decide-run-reported book (well-formed-sound book (well book session none)) l before (facts book session none .0) (decide-own book session l (sym e)))
+
+-- Out of conflict, where lookup answers open for no variable, every clause is met.
+pub nothing-open-met : (book session : List ℕ) → readRefusal book session ≡ 0 → held (formulaOf book) session .conflict ≡ 0
+    → ((x : ℕ) → 1 ≤ x → x ≤ variablesOf book → lookupAnswer book session x ≡ Open → ⊥)
+    → (c : ℕ) → c < length (formulaOf book .clauses) → isMet (held (formulaOf book) session .trail) (clauseOf (formulaOf book) c) ≡ true
+nothing-open-met book session e quiet none-open =
+    nothing-open-all-met (formulaOf book) (held (formulaOf book) session) (well-formed-sound book (well book session (sym e))) (facts book session (sym e) .0) quiet
+    (λ x low high. shown-assigned book session e x low high (none-open x low high))
+
+-- The required length is at most 11,504, and the paper allows 14,000; so many numbers suffice for every book.
+pub required-within : (book : List ℕ) (n : ℕ) → requiredAnswer book ≡ Of n → (n ≤ maxSession) × (maxSession ≤ 14000)
+unfolding requiredAnswer
+required-within book n e = (go (wellFormed book) refl e, omega arith)
+  where
+    go : (w : Bool) → wellFormed book ≡ w → countOf (outcome (cond w 0 11) (requiredLength (variablesOf book) (clausesOf book))) ≡ Of n → n ≤ maxSession
+    go true p q = let is : requiredLength (variablesOf book) (clausesOf book) ≡ n = cc in omega (arith, required-most book p)
+    go false p q = let z : _≡_ {A = ℕ} 0 1 = cc in absurd (omega arith)
+
+pub numbers-suffice : (book : List ℕ) (room : ℕ) → wellFormed book ≡ true → maxSession ≤ room → openRefusal book room ≡ 0
+numbers-suffice book room ok h = sym (open-none book [] room ok (omega (arith, required-most book ok)))
+
+backtrack-after : (book buffer : List ℕ) → wellFormed book ≡ true → (run : Run) → Valid (formulaOf book) run → (k : ℕ) → backtrackRefusal k run ≡ 0
+    → held (formulaOf book) (backtrackNumbers book (overwritten (formulaOf book) run buffer) k) ≡ backtrack k run
+unfolding callNumbers step refusal performCall
+backtrack-after book buffer ok run valid k z =
+    ap (held (formulaOf book)) (call-numbers book buffer ok run valid (backtrackBy k))
+    ∙ rw z (held-overwritten book buffer ok (backtrack k run) (backtrack-valid (formulaOf book) k run (well-formed-sound book ok) valid z))
+
+-- of the numbers that an accepted opening and then the calls of a list leave
+pub statement-3 : (book buffer : List ℕ) (calls : List Call) (left : List ℕ) → left ≡ replayNumbers book calls buffer → Replayed book buffer calls left
+statement-3 book buffer calls left same e =
+    let ok : wellFormed book ≡ true = open-accepted book buffer e .well in
+    let s = well-formed-sound book ok in
+    let run = reference (formulaOf book) calls in
     let valid = reference-valid (formulaOf book) s calls in
-    let is = replayed book buffer calls e in
+    let is : left ≡ overwritten (formulaOf book) run buffer = same ∙ replayed book buffer calls e in
     record {
-      holds = ap (held (formulaOf book)) is ∙ held-overwritten book buffer well (reference (formulaOf book) calls) valid;
+      holds = ap (held (formulaOf book)) is ∙ held-overwritten book buffer ok run valid;
       numbers = is;
-      book-passes = well;
-      session-passes = rw is (passes-overwritten book buffer well (reference (formulaOf book) calls) valid);
-      total = rw is (total-after book buffer well (reference (formulaOf book) calls) valid);
+      book-passes = ok;
+      session-passes = rw is (passes-overwritten book buffer ok run valid);
+      total = rw is (total-after book buffer ok run valid);
+      exact = counts-never-saturate (formulaOf book) s calls;
+      periods = checks-by-period (formulaOf book) s calls;
       in-period = ceiling-in-period (formulaOf book) s calls;
       in-all = ceiling-in-all (formulaOf book) s calls;
       units = λ c u. units-cost-nothing (formulaOf book) s calls c (omega arith);
+      backtrack-moves-nothing = λ k z.
+          rw (ap (λ (numbers : List ℕ). held (formulaOf book) (backtrackNumbers book numbers k)) is ∙ backtrack-after book buffer ok run valid k z)
+          (let kept = backtrack-keeps k run in (kept .1, kept .2, kept .3));
     }

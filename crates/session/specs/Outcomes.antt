@@ -7,7 +7,7 @@ use lib.ListN.{length, drop}
 use Rattle.base.specs.Lists.{sum, copied}
 use Rattle.book.specs.Formula.{Formula, positive, negative}
 use Rattle.book.specs.Numbers.{variablesOf, clausesOf, wellFormed, formulaOf}
-use Rattle.run.specs.Trail.{Entry, isTrue, decisions}
+use Rattle.run.specs.Trail.{isTrue, decisions}
 use Rattle.run.specs.Run.{Run, inConflict, openRun, decide, backtrack}
 use Rattle.run.specs.Calls.{Call, decision, backtrackBy, decideRefusal, backtrackRefusal, reference}
 use Rattle.layout.specs.Layout.{requiredLength, encode, held}
@@ -25,21 +25,63 @@ use Rattle.session.specs.declared.Shown.the-variants as shown
 use Rattle.session.specs.declared.Count.{Count}
 use Rattle.session.specs.declared.Count.the-variants as count
 
--- the numbers of a run, followed by what lay behind the required length
-unfoldable pub overwritten : Formula → Run → List ℕ → List ℕ
-overwritten formula run buffer = encode formula run ++ drop (requiredLength (formula .variables) (length (formula .clauses))) buffer
+-- What a call comes to: the table refuses it by a number, or it is accepted, with what it then speaks of.
+pub data Outcome (A : Type 0) : Type 0 where
+  refused : ℕ → Outcome A
+  accepted : A → Outcome A
 
--- how many literals came on the trail behind the first so many, or the conflict clause's name
+-- by the refusal number, which is 0 where the call is accepted
+abbrev pub outcome : {A : Type 0} → ℕ → A → Outcome A
+outcome number said = cond (eqb number 0) (accepted said) (refused number)
+
+-- Opening and decision: the refusal number; the conflict clause's name (the rule of `open rule R` and `choose F rule R`); or how many literals
+-- the call implied (the paper's forced), those on the trail behind the first so many.
 unfoldable pub propagatedAnswer : ℕ → Run → Answer
 propagatedAnswer before run = cond (inConflict run) (answer.Conflict (run .conflict)) (answer.Implied (length (run .trail) - before))
 
--- how a variable is assigned on a trail
-unfoldable pub assignedIn : List Entry → ℕ → Assigned
-assignedIn trail v =
-    cond (isTrue trail (positive v)) assigned.Positive (cond (isTrue trail (negative v)) assigned.Negative assigned.Open)
+abbrev pub answerOf : ℕ → Outcome Run → Answer
+answerOf before (refused number) = answer.Refused number
+answerOf before (accepted run) = propagatedAnswer before run
 
-unfoldable pub figuresOf : Run → Shown
-figuresOf run = shown.Of (length (decisions (run .trail))) (run .backtracks) (length (run .trail)) (run .conflict)
+-- Backtrack: the refusal number, or done.
+abbrev pub backOf : Outcome Run → Back
+backOf (refused number) = back.Refused number
+backOf (accepted run) = back.Done
+
+-- Lookup: the refusal number; positive (the paper's wanted) where the variable's positive literal is true, negative (barred) where the
+-- negative one is, else open.
+abbrev pub assignedOf : ℕ → Outcome Run → Assigned
+assignedOf v (refused number) = assigned.Refused number
+assignedOf v (accepted run) =
+    cond (isTrue (run .trail) (positive v)) assigned.Positive (cond (isTrue (run .trail) (negative v)) assigned.Negative assigned.Open)
+
+-- The total: the refusal number, or the sum of all counts of checks.
+abbrev pub sumOf : Outcome Run → Sum
+sumOf (refused number) = total.Refused number
+sumOf (accepted run) = total.Checks (sum (run .checks))
+
+-- The figures: the refusal number, or decisions in force, accepted backtracks, trail length, and the conflict clause's name (0 out of conflict).
+abbrev pub shownOf : Outcome Run → Shown
+shownOf (refused number) = shown.Refused number
+shownOf (accepted run) = shown.Of (length (decisions (run .trail))) (run .backtracks) (length (run .trail)) (run .conflict)
+
+-- Required length and copies: the refusal number, or how many numbers there are.
+abbrev pub countOf : Outcome ℕ → Count
+countOf (refused number) = count.Refused number
+countOf (accepted n) = count.Of n
+
+-- The lent numbers afterwards: those of a run, followed by what lay behind the required length; a refusal changes nothing.
+unfoldable pub overwritten : Formula → Run → List ℕ → List ℕ
+overwritten formula run buffer = encode formula run ++ drop (requiredLength (formula .variables) (length (formula .clauses))) buffer
+
+abbrev pub sessionAfter : Formula → List ℕ → Outcome Run → List ℕ
+sessionAfter formula buffer (refused number) = buffer
+sessionAfter formula buffer (accepted run) = overwritten formula run buffer
+
+-- A copy's numbers afterwards: what fits is copied, and what lies behind stays; a refusal changes nothing.
+abbrev pub copyAfter : List ℕ → Outcome (List ℕ) → List ℕ
+copyAfter buffer (refused number) = buffer
+copyAfter buffer (accepted part) = copied part buffer
 
 abbrev pub checksOfRun : Run → List ℕ
 checksOfRun run = run .checks
@@ -57,17 +99,17 @@ module _ (book : List ℕ) where
 
   -- The required length of a session.
   unfoldable pub requiredAnswer : Count
-  requiredAnswer = cond (wellFormed book) (count.Of (requiredLength (variablesOf book) (clausesOf book))) (count.Refused 11)
+  requiredAnswer = countOf (outcome (cond (wellFormed book) 0 11) (requiredLength (variablesOf book) (clausesOf book)))
 
   -- Opening: 11, then 10; 0 where it is accepted.
   unfoldable pub openRefusal : ℕ → ℕ
   openRefusal room = cond (wellFormed book) (cond (ltb room (requiredLength (variablesOf book) (clausesOf book))) 10 0) 11
 
   unfoldable pub openAnswer : ℕ → Answer
-  openAnswer room = cond (eqb (openRefusal room) 0) (propagatedAnswer 0 (openRun formula)) (answer.Refused (openRefusal room))
+  openAnswer room = answerOf 0 (outcome (openRefusal room) (openRun formula))
 
   unfoldable pub openNumbers : List ℕ → List ℕ
-  openNumbers buffer = cond (eqb (openRefusal (length buffer)) 0) (overwritten formula (openRun formula) buffer) buffer
+  openNumbers buffer = sessionAfter formula buffer (outcome (openRefusal (length buffer)) (openRun formula))
 
   -- Session calls: 11, then 12 (`callRefusal`), then what the call itself refuses in the run that the session holds.
   module _ (session : List ℕ) where
@@ -79,44 +121,41 @@ module _ (book : List ℕ) where
     sessionDecideRefusal l = callRefusal book session (decideRefusal formula l)
 
     unfoldable pub decideAnswer : ℕ → Answer
-    decideAnswer l =
-        cond (eqb (sessionDecideRefusal l) 0)
-        (propagatedAnswer (suc (length (run .trail))) (decide formula l run))
-        (answer.Refused (sessionDecideRefusal l))
+    decideAnswer l = answerOf (suc (length (run .trail))) (outcome (sessionDecideRefusal l) (decide formula l run))
 
     unfoldable pub decideNumbers : ℕ → List ℕ
-    decideNumbers l = cond (eqb (sessionDecideRefusal l) 0) (overwritten formula (decide formula l run) session) session
+    decideNumbers l = sessionAfter formula session (outcome (sessionDecideRefusal l) (decide formula l run))
 
     -- Backtrack: 16, 17.
     unfoldable pub sessionBacktrackRefusal : ℕ → ℕ
     sessionBacktrackRefusal k = callRefusal book session (backtrackRefusal k)
 
     unfoldable pub backtrackAnswer : ℕ → Back
-    backtrackAnswer k = cond (eqb (sessionBacktrackRefusal k) 0) back.Done (back.Refused (sessionBacktrackRefusal k))
+    backtrackAnswer k = backOf (outcome (sessionBacktrackRefusal k) (backtrack k run))
 
     unfoldable pub backtrackNumbers : ℕ → List ℕ
-    backtrackNumbers k = cond (eqb (sessionBacktrackRefusal k) 0) (overwritten formula (backtrack k run) session) session
+    backtrackNumbers k = sessionAfter formula session (outcome (sessionBacktrackRefusal k) (backtrack k run))
 
     -- Lookup: 13; it answers in conflict too.
     unfoldable pub lookupRefusal : ℕ → ℕ
     lookupRefusal v = callRefusal book session (λ (r : Run). cond (leb 1 v && leb v (formula .variables)) 0 13)
 
     unfoldable pub lookupAnswer : ℕ → Assigned
-    lookupAnswer v = cond (eqb (lookupRefusal v) 0) (assignedIn (run .trail) v) (assigned.Refused (lookupRefusal v))
+    lookupAnswer v = assignedOf v (outcome (lookupRefusal v) run)
 
     -- What only reads refuses by 11 and 12 alone.
     unfoldable pub totalAnswer : Sum
-    totalAnswer = cond (eqb (readRefusal book session) 0) (total.Checks (sum (run .checks))) (total.Refused (readRefusal book session))
+    totalAnswer = sumOf (outcome (readRefusal book session) run)
 
     unfoldable pub figuresAnswer : Shown
-    figuresAnswer = cond (eqb (readRefusal book session) 0) (figuresOf run) (shown.Refused (readRefusal book session))
+    figuresAnswer = shownOf (outcome (readRefusal book session) run)
 
-    -- Copies: what fits is copied, what lies behind stays, and the answer says how many there are.
+    -- Copies of a part of the run: the answer says how many numbers it has.
     unfoldable pub copyAnswer : (Run → List ℕ) → Count
-    copyAnswer part = cond (eqb (readRefusal book session) 0) (count.Of (length (part run))) (count.Refused (readRefusal book session))
+    copyAnswer part = countOf (outcome (readRefusal book session) (length (part run)))
 
     unfoldable pub copyNumbers : (Run → List ℕ) → List ℕ → List ℕ
-    copyNumbers part buffer = cond (eqb (readRefusal book session) 0) (copied (part run) buffer) buffer
+    copyNumbers part buffer = copyAfter buffer (outcome (readRefusal book session) (part run))
 
     -- Any call.
     unfoldable pub callNumbers : Call → List ℕ
@@ -128,9 +167,9 @@ module _ (book : List ℕ) where
   playedNumbers session [] = session
   playedNumbers session (call ∷ calls) = playedNumbers (callNumbers session call) calls
 
+  -- it answers as an opening does, of the run in the end: how many literals are on the trail, decisions among them
   unfoldable pub replayAnswer : List Call → ℕ → Answer
-  replayAnswer calls room =
-      cond (eqb (openRefusal room) 0) (propagatedAnswer 0 (reference formula calls)) (answer.Refused (openRefusal room))
+  replayAnswer calls room = answerOf 0 (outcome (openRefusal room) (reference formula calls))
 
   unfoldable pub replayNumbers : List Call → List ℕ → List ℕ
   replayNumbers calls buffer = cond (eqb (openRefusal (length buffer)) 0) (playedNumbers (openNumbers buffer) calls) buffer

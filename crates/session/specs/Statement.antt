@@ -1,26 +1,47 @@
--- Statements 2 and 3 of the service description: of every session that passes, and of a whole list of calls on one session.
-use Prim.Native.Nat.{ℕ, suc, _+_, _*_, _≤_}
+-- Statements 2 and 3 of the service description: of every session that passes and of what the calls report, and of a whole list of calls on one session.
+use Prim.Native.Nat.{ℕ, suc, _+_, _*_, _-_, _≤_, _<_}
 use mathlib.Core.Path.{_≡_}
 use mathlib.Core.Bool.{true}
-use mathlib.Core.List.{List}
-use mathlib.Core.Logic.{_↔_}
+use mathlib.Core.List.{List, [], _∷_}
+use mathlib.Core.Logic.{_↔_, _⊎_}
 use lib.ListN.{length}
-use Rattle.base.specs.Lists.{sum, member}
-use Rattle.book.specs.Formula.{Formula}
+use Rattle.base.specs.Lists.{sum, member, distinct}
+use Rattle.book.specs.Formula.{Formula, positive, negative}
 use Rattle.book.specs.Numbers.{formulaOf, wellFormed}
 use Rattle.run.specs.Trail.{isTrue, isFalse, decisions}
-use Rattle.run.specs.Run.{Run, size, clauseOf, inConflict}
+use Rattle.run.specs.Run.{Run, size, clauseOf, inConflict, maxCount, trailBehind}
 use Rattle.run.specs.Closure.{Closure, BothWays}
-use Rattle.run.specs.Calls.{Call, reference}
-use Rattle.run.specs.Ceiling.{checksOf, countBefore, ceiling}
+use Rattle.run.specs.Calls.{Call, backtrackRefusal, reference}
+use Rattle.run.specs.Ceiling.{checksOf, countBefore, checksSince, ceiling}
 use Rattle.layout.specs.Layout.{held}
 use Rattle.validation.specs.Validation.{passes}
-use Rattle.session.specs.Outcomes.{overwritten, openRefusal, totalAnswer, replayNumbers}
+use Rattle.session.specs.Outcomes.{overwritten, openRefusal, openAnswer, openNumbers, decideAnswer, decideNumbers, backtrackNumbers, lookupAnswer, totalAnswer}
+use Rattle.session.specs.declared.Answer.{Answer}
+use Rattle.session.specs.declared.Answer.the-variants.{Implied, Conflict}
+use Rattle.session.specs.declared.Assigned.the-variants.{Positive, Negative}
 use Rattle.session.specs.declared.Sum.the-variants.{Checks}
 
 module _ (book : List ℕ) where
   abbrev formula : Formula
   formula = formulaOf book
+
+  -- What an opening or a decision that is accepted reports: by the decisions then in force, what was true before it implied anything, and
+  -- the run that the session then holds.
+  pub record Reported (ds : List ℕ) (Before : ℕ → Type 0) (after : Run) (answer : Answer) : Type 0 where
+    -- it answers a conflict exactly if the closure of the decisions holds some variable both ways
+    pub conflicts : ((name : ℕ) × (answer ≡ Conflict name)) ↔ BothWays (Closure formula ds)
+    -- every literal of the clause that it names is then false
+    pub named : (name : ℕ) → answer ≡ Conflict name
+        → (c : ℕ) × (name ≡ suc c) × (c < length (formula .clauses)) × ((m : ℕ) → member m (clauseOf formula c) ≡ true → isFalse (after .trail) m ≡ true)
+    -- otherwise it answers how many literals it implied, and these, the last ones on the trail, are just what the closure gained, each once
+    pub gained : (BothWays (Closure formula ds) → ⊥)
+        → (n : ℕ) × (answer ≡ Implied n)
+        × (length (trailBehind (length (after .trail) - n) after) ≡ n)
+        × (distinct (trailBehind (length (after .trail) - n) after) ≡ true)
+        × ((l : ℕ) → (member l (trailBehind (length (after .trail) - n) after) ≡ true) ↔ (Closure formula ds l × (Before l → ⊥)))
+
+  abbrev pub OpenReported : List ℕ → Type 0
+  OpenReported buffer = Reported [] (λ l. ⊥) (held formula (openNumbers book buffer)) (openAnswer book (length buffer))
 
   -- Of every session that passes, whoever lent it, on the run that it holds:
   module _ (session : List ℕ) where
@@ -33,13 +54,21 @@ module _ (book : List ℕ) where
       -- it is in conflict exactly if the closure holds some variable both ways, and the conflict clause is then all false
       pub both-ways : (inConflict run ≡ true) ↔ BothWays (Closure formula (decisions (run .trail)))
       pub conflict-clause : (c : ℕ) → run .conflict ≡ suc c → (m : ℕ) → member m (clauseOf formula c) ≡ true → isFalse (run .trail) m ≡ true
+      -- and lookup tells it: out of conflict it answers positive, or negative, exactly if that literal of the variable is in the closure
+      pub shown-positive : run .conflict ≡ 0 → (v : ℕ) → 1 ≤ v → v ≤ formula .variables
+          → (lookupAnswer book session v ≡ Positive) ↔ Closure formula (decisions (run .trail)) (positive v)
+      pub shown-negative : run .conflict ≡ 0 → (v : ℕ) → 1 ≤ v → v ≤ formula .variables
+          → (lookupAnswer book session v ≡ Negative) ↔ Closure formula (decisions (run .trail)) (negative v)
 
-  -- After an accepted opening on any lent numbers and then any calls, refused ones included:
-  module _ (buffer : List ℕ) (calls : List Call) where
-    -- the numbers that the calls leave, and the reference run
-    abbrev left : List ℕ
-    left = replayNumbers book calls buffer
+    -- a decision of l: before it implied anything, l and the closure of the decisions before it were true
+    abbrev pub DecideReported : ℕ → Type 0
+    DecideReported l =
+        Reported (l ∷ decisions (run .trail)) (λ m. (m ≡ l) ⊎ Closure formula (decisions (run .trail)) m)
+        (held formula (decideNumbers book session l)) (decideAnswer book session l)
 
+  -- After an accepted opening on any lent numbers and then any calls, refused ones included, of the numbers that are then left:
+  module _ (buffer : List ℕ) (calls : List Call) (left : List ℕ) where
+    -- the reference run of the calls
     abbrev reached : Run
     reached = reference formula calls
 
@@ -50,14 +79,21 @@ module _ (book : List ℕ) where
       -- 11 and 12 never arise
       pub book-passes : wellFormed book ≡ true
       pub session-passes : passes formula left ≡ true
-      -- the total is the sum of the counts
+      -- the total is the sum of the counts, and no count has stopped at its largest value
       pub total : totalAnswer book left ≡ Checks (sum (reached .checks))
-      -- a clause of n ≥ 2 literals has at most 2 × n − 3 checks since the latest accepted backtrack, or since the opening began, and at most
-      -- (2 × n − 3) × (b + 1) in all; a clause of one literal costs none
-      pub in-period : (c : ℕ) → 2 ≤ size formula c → checksOf reached c ≤ countBefore formula c calls + ceiling (size formula c)
+      pub exact : (c : ℕ) → checksOf reached c < maxCount
+      -- a clause's checks are those before the latest accepted backtrack (none, where there is none) and those since then; of n ≥ 2 literals it
+      -- has at most 2 × n − 3 since then, and at most (2 × n − 3) × (b + 1) in all; of one literal it costs none
+      pub periods : (c : ℕ) → checksOf reached c ≡ countBefore formula c calls + checksSince formula c calls
+      pub in-period : (c : ℕ) → 2 ≤ size formula c → checksSince formula c calls ≤ ceiling (size formula c)
       pub in-all : (c : ℕ) → 2 ≤ size formula c → checksOf reached c ≤ ceiling (size formula c) * (reached .backtracks + 1)
       pub units : (c : ℕ) → size formula c ≡ 1 → checksOf reached c ≡ 0
+      -- a backtrack that is accepted next moves no watch, pointer or list, and makes no check
+      pub backtrack-moves-nothing : (k : ℕ) → backtrackRefusal k reached ≡ 0
+          → (held formula (backtrackNumbers book left k) .cells ≡ reached .cells)
+          × (held formula (backtrackNumbers book left k) .lists ≡ reached .lists)
+          × (held formula (backtrackNumbers book left k) .checks ≡ reached .checks)
 
-    -- what `replay` carries: statement 3, where the opening is accepted
+    -- what `replay` carries of the numbers that it leaves: statement 3, where the opening is accepted
     abbrev pub Replayed : Type 0
     Replayed = openRefusal book (length buffer) ≡ 0 → Statement3

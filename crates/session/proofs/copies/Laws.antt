@@ -1,14 +1,13 @@
--- A sum and copies, as the loops over an index meet them.
+-- A sum, as the loop over an index meets it.
 use Prim.Native.Nat.{ℕ, _+_, _*_, _≤_, _<_}
-use mathlib.Core.Path.{_≡_, ap, ap₂, sym, _∙_}
-use mathlib.Core.List.{List, _++_}
+use mathlib.Core.Path.{_≡_, ap}
+use mathlib.Core.List.{List}
 use native.Mathlib.Numerals.{add-one}
 use native.Mathlib.Omega.{arith}
-use lib.ListN.{length, getD, take, drop, drop-of-length-le}
-use lib.Seq.{drop-cons, take-all}
+use lib.ListN.{length, getD, drop, drop-of-length-le}
+use lib.Seq.{drop-cons}
 use Rattle.run.specs.Run.{maxCount}
-use Rattle.base.specs.Lists.{sum, copied}
-use Rattle.base.proofs.Copies.{Copied}
+use Rattle.base.specs.Lists.{sum}
 
 -- the sum of the first i numbers, and of all
 pub record Summed (numbers : List ℕ) (s i : ℕ) : Type 0 where
@@ -30,17 +29,3 @@ unfolding sum
 summed-all numbers s i r h =
     let none : sum (drop i numbers) ≡ 0 = ap sum (drop-of-length-le numbers h) in
     omega (arith, r .rest)
-
--- a copy that ends with the source, and one that ends with the room
-pub copied-all : (source before now : List ℕ) (i : ℕ) → Copied source before now i → length source ≤ i → now ≡ copied source before
-unfolding copied
-copied-all source before now i c h =
-    let is-all : i ≡ length source = omega (arith, c .in-source) in
-    c .is ∙ ap₂ (λ (x y : List ℕ). x ++ y) (take-all i source h ∙ sym (take-all (length before) source (omega (arith, c .in-target)))) (ap (λ (k : ℕ). drop k before) is-all)
-
-pub copied-full : (source before now : List ℕ) (i : ℕ) → Copied source before now i → length before ≤ i → now ≡ copied source before
-unfolding copied
-copied-full source before now i c h =
-    let is-full : i ≡ length before = omega (arith, c .in-target) in
-    let over : length before ≤ length source = omega (arith, c .in-source) in
-    c .is ∙ ap₂ (λ (x y : List ℕ). x ++ y) (ap (λ (k : ℕ). take k source) is-full) (drop-of-length-le before h ∙ sym (drop-of-length-le before over))

@@ -120,7 +120,7 @@ returns-2 c =
     let else1 = after-loop .before .before .before .before .before .before in
     let here = else1 .before in
     let done = replay-done (start here .args .book .now) (start here .args .session .now) (callsOf (start here .args .calls .now)) _ (sym (else1 .if1 .left) ∙ here .open-refusal .ensures) (finished after-loop) in
-    (c .answered .ensures ∙ done .0, (finished after-loop, statement-3 (start here .args .book .now) (start here .args .session .now) (callsOf (start here .args .calls .now))))
+    (c .answered .ensures ∙ done .0, (finished after-loop, statement-3 (start here .args .book .now) (start here .args .session .now) (callsOf (start here .args .calls .now)) _ (finished after-loop)))
 
 pub replay-spec : {M : Type 1} → statement M
 replay-spec =

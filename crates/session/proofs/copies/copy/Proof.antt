@@ -3,8 +3,7 @@ use native.Mathlib.Omega.{arith}
 use borrow.Author.Needs.{needs}
 use Prim.Native.Nat.{_-_}
 use lib.ListN.{length}
-use Rattle.base.proofs.Copies.{Copied, copied-none, copied-more, length-copied}
-use Rattle.session.proofs.copies.Laws.{copied-all, copied-full}
+use Rattle.base.proofs.Copies.{Copied, copied-none, copied-more, length-copied, copied-all, copied-full}
 use Rattle.session.proofs.copies.copy.Statement.{statement}
 use Rattle.session.proofs.copies.copy.Tie as tie
 
