@@ -1,215 +1,158 @@
 // Reads the rule book `tariff.cnf`, then a script from standard input, and prints an answer to each line.
-ghost use Rattle.desk.specs.Answering.{ShowsImplied, Propagated, Answers, Finishes};
-ghost use Rattle.desk.specs.Following.{TakesByte, TakesBytes};
+ghost use Prim.Native.Nat.{ℕ};
+ghost use mathlib.Core.Path.{_≡_};
+ghost use mathlib.Core.List.{List};
+ghost use Rattle.dialog.specs.Program.{Lends, holding, PartTaken};
 use book::limits::MAX_BOOK;
 use book::limits::MAX_TEXT;
-use book::limits::MAX_VARIABLES;
+use dialog::MAX_ANSWER;
+use dialog::MAX_LINE;
+use dialog::Started;
 use layout::offsets::MAX_SESSION;
-use layout::values::wide;
 use libc::STDIN_FILENO;
 use libc::STDOUT_FILENO;
 
-// As much of a line as is kept: one byte more than the longest line with a meaning.
-const LINE: usize = 12;
+// What was read of the rule book.
+enum Text {
+    Bytes(usize),
+    Failed,
+}
 
-// The bytes of an answer.
-const OUT: usize = 4096;
+// What became of a part of the script: it is answered, and so many bytes of a line that has begun are kept; or there was none; or the program
+// is to stop.
+enum Part {
+    Kept(usize),
+    Ended,
+    Failed,
+}
 
-// As many literals as a trail has at most, as a count.
-const MOST: u32 = MAX_VARIABLES as u32;
-
-// Prints the first `n` bytes.
-fn print(bytes: &[u8], n: usize) {
+// Prints the first `n` bytes, and answers whether all of them were written.
+fn print(bytes: &[u8], n: usize) -> bool {
     if n <= bytes.len() {
-        io::write_all(STDOUT_FILENO, &bytes[..n]);
+        return io::write_all(STDOUT_FILENO, &bytes[..n]);
     }
+    false
+}
+
+// The bytes of a file, as many as fit.
+fn read_file(file: i32, bytes: &mut [u8]) -> Text {
+    let mut at = 0;
+    while at < bytes.len() {
+        let got = libc::read(file, &mut bytes[at..]);
+        if got < 0 {
+            return Text::Failed;
+        }
+        let n = io::count(got, &bytes[at..]);
+        if n == 0 {
+            return Text::Bytes(at);
+        }
+        at += n;
+    }
+    Text::Bytes(at)
 }
 
 // The text of the rule book, as much as tells that it is over the limit; no file is an empty text.
-fn read_text(text: &mut [u8]) -> usize {
+fn read_text(text: &mut [u8]) -> Text {
     let file = os::open_read(b"tariff.cnf");
     if file < 0 {
-        return 0;
+        if os::errno() == libc::ENOENT {
+            return Text::Bytes(0);
+        }
+        return Text::Failed;
     }
-    let n = io::read_full(file, text);
+    let read = read_file(file, text);
     libc::close(file);
-    n
+    read
 }
 
-// The line of a call that implied so many literals: the last ones on the trail.
-fn show_implied(
-    book: &[u32],
-    session: &[u32],
-    cause: script::Cause,
-    implied: u32,
-    out: &mut [u8],
-) -> usize
-    ensures { λ r. ⌜ ShowsImplied (now (book .entry)) (now (session .entry)) cause implied (now (out .entry)) (now (out .exit)) r ⌝ }
-{
-    let mut literals = [0u32; MAX_VARIABLES];
-    match session::trail_from(book, session, 0, &mut literals) {
-        session::Count::Refused(_) => 0,
-        session::Count::Of(trail) => {
-            if trail < implied {
-                return 0;
-            }
-            if MOST < trail {
-                return 0;
-            }
-            let from = wide(trail - implied);
-            let to = wide(trail);
-            script::write_implied(cause, &literals[from..to], out)
-        }
-    }
-}
-
-// The line of an opening or a decision.
-fn propagated(
-    book: &[u32],
-    session: &[u32],
-    cause: script::Cause,
-    answer: session::Answer,
-    out: &mut [u8],
-) -> usize
-    ensures { λ r. ⌜ Propagated (now (book .entry)) (now (session .entry)) cause answer (now (out .entry)) (now (out .exit)) r ⌝ }
-{
-    match answer {
-        session::Answer::Implied(implied) => show_implied(book, session, cause, implied, out),
-        session::Answer::Conflict(clause) => script::write_clause(cause, clause, out),
-        session::Answer::Refused(refusal) => script::write_refused(refusal, out),
-    }
-}
-
-// Makes the call that a line asks for, and writes its answer.
-fn answer(book: &[u32], session: &mut [u32], line: &[u8], out: &mut [u8]) -> usize
-    ensures { λ r. ⌜ Answers (now (book .entry)) (now (session .entry)) (now (session .exit)) (now (line .entry)) (now (out .entry)) (now (out .exit)) r ⌝ }
-{
-    match script::parse_line(line) {
-        script::Line::Malformed => script::write_refused(18, out),
-        script::Line::Choose(literal) => {
-            let made = session::decide(book, session, literal);
-            propagated(book, session, script::Cause::Decision(literal), made, out)
-        }
-        script::Line::Back(k) => match session::backtrack(book, session, k) {
-            session::Back::Done => script::write_back(k, out),
-            session::Back::Refused(refusal) => script::write_refused(refusal, out),
-        },
-    }
-}
-
-// Takes one byte of the script: a byte 10 has the line answered. A line of which 12 bytes are kept is malformed, whatever follows.
-fn take_byte(book: &[u32], session: &mut [u32], line: &mut [u8], kept: usize, byte: u8) -> usize
-    ensures { λ r. ⌜ TakesByte (now (book .entry)) (now (session .entry)) (now (session .exit)) (now (line .entry)) (now (line .exit)) kept byte r ⌝ }
-{
-    if byte == 10 {
-        let mut out = [0u8; OUT];
-        if kept <= line.len() {
-            let n = answer(book, session, &line[..kept], &mut out);
-            print(&out, n);
-        }
-        return 0;
-    }
-    if kept < line.len() {
-        line[kept] = byte;
-        return kept + 1;
-    }
-    kept
-}
-
-fn take_bytes(
+// Answers a part of the script: it is lent again, without what is used of it, until it is used up.
+fn answer_part(
     book: &[u32],
     session: &mut [u32],
     line: &mut [u8],
     kept: usize,
     bytes: &[u8],
-) -> usize
-    ensures { λ r. ⌜ TakesBytes (now (book .entry)) (now (session .entry)) (now (session .exit)) (now (line .entry)) (now (line .exit)) kept (now (bytes .entry)) r ⌝ }
+    out: &mut [u8],
+) -> Part
+    ensures { λ r. ⌜ ((held : ℕ) → r ≡ Part.Kept held → (printed : List ℕ) × PartTaken (now (book .entry)) (holding (now (session .entry)) (now (line .entry)) kept (now (out .entry))) (now (bytes .entry)) (holding (now (session .exit)) (now (line .exit)) held (now (out .exit))) printed) ⌝ }
 {
-    let mut end = kept;
-    let mut i = 0;
-    while i < bytes.len() {
-        end = take_byte(book, session, line, end, bytes[i]);
-        i += 1;
+    let mut held = kept;
+    let mut at = 0;
+    while at < bytes.len() {
+        let taken = dialog::take(book, session, line, held, &bytes[at..], out);
+        if !print(out, taken.written) {
+            return Part::Failed;
+        }
+        held = taken.kept;
+        at += taken.used;
     }
-    end
+    Part::Kept(held)
 }
 
-// Reads once and takes what came; 13 is the end of the script.
-fn take_some(book: &[u32], session: &mut [u32], line: &mut [u8], kept: usize) -> usize {
+// Reads once, and answers what came.
+fn answer_some(
+    book: &[u32],
+    session: &mut [u32],
+    line: &mut [u8],
+    kept: usize,
+    out: &mut [u8],
+) -> Part {
     let mut bytes = io::buffer();
     let got = libc::read(STDIN_FILENO, &mut bytes);
-    if got <= 0 {
-        return 13;
+    if got < 0 {
+        return Part::Failed;
     }
     let n = io::count(got, &bytes);
-    take_bytes(book, session, line, kept, &bytes[..n])
+    if n == 0 {
+        return Part::Ended;
+    }
+    answer_part(book, session, line, kept, &bytes[..n], out)
 }
 
-// Answers the lines of the script. A proved loop has to end, so it counts its turns down, from a number that no run uses up.
-fn answer_all(book: &[u32], session: &mut [u32]) {
-    let mut line = [0u8; LINE];
+// Answers the script. A proved loop has to end, so it counts its turns down, from a number that no run uses up. Where a read or a write
+// fails, nothing more is printed, and the last line is missing.
+fn answer_script(book: &[u32], session: &mut [u32], line: &mut [u8], out: &mut [u8]) {
     let mut kept: usize = 0;
     let mut turns = u64::MAX;
     while turns > 0 {
-        let next = take_some(book, session, &mut line, kept);
-        if LINE < next {
-            turns = 0;
-        } else {
-            kept = next;
-            turns -= 1;
+        match answer_some(book, session, line, kept, out) {
+            Part::Failed => return,
+            Part::Ended => turns = 0,
+            Part::Kept(held) => {
+                kept = held;
+                turns -= 1;
+            }
         }
     }
-    if 0 < kept {
-        take_byte(book, session, &mut line, kept, 10);
-    }
+    let n = dialog::finish(book, session, line, kept, out);
+    print(out, n);
 }
 
-// The last line.
-fn finish(book: &[u32], session: &[u32], out: &mut [u8]) -> usize
-    ensures { λ r. ⌜ Finishes (now (book .entry)) (now (session .entry)) (now (out .entry)) (now (out .exit)) r ⌝ }
+// The dialog on the text of a rule book, in buffers that every book, session and answer fits.
+fn run(text: &[u8], book: &mut [u32], session: &mut [u32], line: &mut [u8], out: &mut [u8])
+    requires { ⌜ Lends (now book) (now session) (now line) (now out) ⌝ }
 {
-    match session::total(book, session) {
-        session::Sum::Refused(refusal) => script::write_refused(refusal, out),
-        session::Sum::Checks(checks) => match session::figures(book, session) {
-            session::Shown::Refused(refusal) => script::write_refused(refusal, out),
-            session::Shown::Of {
-                decisions,
-                backtracks,
-                trail: _,
-                conflict: _,
-            } => script::write_end(decisions, backtracks, checks, out),
-        },
+    match dialog::start(text, book, session, out) {
+        Started::Refused(n) => {
+            print(out, n);
+        }
+        Started::Open(n) => {
+            if print(out, n) {
+                answer_script(book, session, line, out);
+            }
+        }
     }
-}
-
-// A session on a book that was read.
-fn run(book: &[u32]) {
-    let mut session = [0u32; MAX_SESSION];
-    let mut out = [0u8; OUT];
-    let opened = session::open(book, &mut session);
-    let n = propagated(book, &session, script::Cause::Opening, opened, &mut out);
-    print(&out, n);
-    answer_all(book, &mut session);
-    let last = finish(book, &session, &mut out);
-    print(&out, last);
 }
 
 fn main() {
     let mut text = [0u8; MAX_TEXT + 1];
     let mut book = [0u32; MAX_BOOK];
-    let n = read_text(&mut text);
-    if n <= text.len() {
-        match book::read(&text[..n], &mut book) {
-            book::Reading::Refused(refusal) => {
-                let mut out = [0u8; 64];
-                let length = script::write_refused(refusal, &mut out);
-                print(&out, length);
-            }
-            book::Reading::Book {
-                variables: _,
-                clauses: _,
-                literals: _,
-            } => run(&book),
+    let mut session = [0u32; MAX_SESSION];
+    let mut line = [0u8; MAX_LINE];
+    let mut out = [0u8; MAX_ANSWER];
+    if let Text::Bytes(n) = read_text(&mut text) {
+        if n <= text.len() {
+            run(&text[..n], &mut book, &mut session, &mut line, &mut out);
         }
     }
 }

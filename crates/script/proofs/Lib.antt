@@ -1,3 +1,4 @@
 -- The laws of `script` that proofs cite.
 pub mod LineLaws
+pub mod LineLengths
 pub mod LongLines

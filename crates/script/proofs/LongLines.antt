@@ -1,5 +1,5 @@
--- A line of more than 11 bytes is malformed, so a reader may keep 12 bytes of a line and drop the rest.
-use Prim.Native.Nat.{ℕ, _<_}
+-- A line of more than 11 bytes is malformed, so a reader may keep 12 bytes of a line, or more, and drop the rest.
+use Prim.Native.Nat.{ℕ, _≤_, _<_}
 use mathlib.Core.Path.{_≡_, refl, sym, ap, _∙_}
 use mathlib.Core.Bool.{Bool, true, false, cond}
 use mathlib.Core.List.{List, [], _∷_}
@@ -37,11 +37,11 @@ long-line (b ∷ bytes) h = go (eqb b 45) (eqb b 98)
     go false true = long-back bytes (omega arith)
     go false false = long-number (λ (v : ℕ). Choose (positive v)) (b ∷ bytes) (omega arith)
 
-pub kept-line : (line : List ℕ) → lineOf (take 12 line) ≡ lineOf line
-kept-line line = go (leb (length line) 12) refl
+pub kept-line : (n : ℕ) (line : List ℕ) → 12 ≤ n → lineOf (take n line) ≡ lineOf line
+kept-line n line room = go (leb (length line) n) refl
   where
-    go : (t : Bool) → leb (length line) 12 ≡ t → lineOf (take 12 line) ≡ lineOf line
-    go true e = ap lineOf (take-all 12 line (leb-true (length line) 12 e))
+    go : (t : Bool) → leb (length line) n ≡ t → lineOf (take n line) ≡ lineOf line
+    go true e = ap lineOf (take-all n line (leb-true (length line) n e))
     go false e =
-        let over : 12 < length line = leb-false (length line) 12 e in
-        long-line (take 12 line) (rw (length-take-le 12 line (omega arith)) (omega arith)) ∙ sym (long-line line (omega arith))
+        let over : n < length line = leb-false (length line) n e in
+        long-line (take n line) (rw (length-take-le n line (omega arith)) (omega arith)) ∙ sym (long-line line (omega arith))

@@ -1,4 +1,4 @@
--- `main` is safe and ends. Assumes nothing.
+-- `main` is safe and ends, and its buffers are large enough. Assumes nothing.
 use mathlib.Core.Path.{sym}
 use lib.Seq.{length-take-le}
 use borrow.Author.Needs.{needs}
@@ -11,43 +11,34 @@ slice-aggregate-read-text c = search needs
 read-text-requires : tie.Need-read-text-requires
 read-text-requires c κs = search needs
 
+enum-known-n : tie.Need-enum-known-n
+enum-known-n c = search needs
+
 array-share-prefix-text : tie.Need-array-share-prefix-text
 array-share-prefix-text c = search needs
 
-slice-aggregate-read : tie.Need-slice-aggregate-read
-slice-aggregate-read c =
-    let after-read-text = c .before .before .before in
-    sym (length-take-le (after-read-text .read-text .result) (after-read-text .read-text .last .0) (search needs))
-
-slice-aggregate-read-2 : tie.Need-slice-aggregate-read-2
-slice-aggregate-read-2 c = search needs
-
-read-requires : tie.Need-read-requires
-read-requires c κs = search needs
-
-enum-known-refusal : tie.Need-enum-known-refusal
-enum-known-refusal c = search needs
-
-slice-aggregate-write-refused : tie.Need-slice-aggregate-write-refused
-slice-aggregate-write-refused c = search needs
-
-write-refused-requires : tie.Need-write-refused-requires
-write-refused-requires c κs = search needs
-
-slice-aggregate-print : tie.Need-slice-aggregate-print
-slice-aggregate-print c = search needs
-
-print-requires : tie.Need-print-requires
-print-requires c κs = search needs
-
-enum-told : tie.Need-enum-told
-enum-told c = search needs
-
 slice-aggregate-run : tie.Need-slice-aggregate-run
-slice-aggregate-run c = search needs
+slice-aggregate-run c =
+    let after-n = c .before .before .before in
+    sym (length-take-le (after-n .n .given .0 .0) (after-n .before .before .before .read-text .last .0) (search needs))
+
+slice-aggregate-run-2 : tie.Need-slice-aggregate-run-2
+slice-aggregate-run-2 c = search needs
+
+slice-aggregate-run-3 : tie.Need-slice-aggregate-run-3
+slice-aggregate-run-3 c = search needs
+
+slice-aggregate-run-4 : tie.Need-slice-aggregate-run-4
+slice-aggregate-run-4 c = search needs
+
+slice-aggregate-run-5 : tie.Need-slice-aggregate-run-5
+slice-aggregate-run-5 c = search needs
 
 run-requires : tie.Need-run-requires
 run-requires c κs = search needs
+
+enum-told : tie.Need-enum-told
+enum-told c = search needs
 
 returns : tie.Need-returns
 returns c = search needs
@@ -64,18 +55,15 @@ main-spec =
     (tie.spec
     slice-aggregate-read-text
     read-text-requires
+    enum-known-n
     array-share-prefix-text
-    slice-aggregate-read
-    slice-aggregate-read-2
-    read-requires
-    enum-known-refusal
-    slice-aggregate-write-refused
-    write-refused-requires
-    slice-aggregate-print
-    print-requires
-    enum-told
     slice-aggregate-run
+    slice-aggregate-run-2
+    slice-aggregate-run-3
+    slice-aggregate-run-4
+    slice-aggregate-run-5
     run-requires
+    enum-told
     returns
     returns-2
     returns-3)

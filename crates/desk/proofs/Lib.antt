@@ -1,3 +1,0 @@
--- The laws of `desk`.
-pub mod AnsweringLaws
-pub mod FollowingLaws

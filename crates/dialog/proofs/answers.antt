@@ -1,0 +1,2 @@
+-- The laws of src/answers.rt.
+pub mod Laws
