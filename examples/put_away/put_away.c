@@ -1,5 +1,5 @@
-/* Opens a session on a tariff, puts its numbers away in a file, takes them up again and goes on; then damages one number. */
-#include "tariff.h"
+/* Opens a session on a tariff, puts its numbers away in a file, takes them up again and goes on; then damages one number, and runs into a contradiction. */
+#include <tariff.h>
 #include <stdio.h>
 #include <stdlib.h>
 #include <string.h>
@@ -13,10 +13,14 @@ static void fail(const char *what) {
     exit(1);
 }
 
-/* Says a call and what it answered. */
+/* Says a call and what it answered: a number, the rule that is contradicted, or the number of a refusal. */
 static void say(const char *call, uint64_t answer) {
-    static const char *kinds[] = {"accepted", "rule", "refused"};
-    printf("%s: %s %u\n", call, kinds[tariff_kind(answer)], tariff_number(answer));
+    uint32_t number = tariff_number(answer);
+    switch (tariff_kind(answer)) {
+    case TARIFF_ACCEPTED: printf("%s: accepted %u\n", call, number); break;
+    case TARIFF_CONFLICT: printf("%s: contradicts rule %u\n", call, number); break;
+    case TARIFF_REFUSED: printf("%s: refused %u\n", call, number); break;
+    }
 }
 
 static void read_tariff(const char *path) {
@@ -44,9 +48,23 @@ static size_t take_up(const char *path) {
     return length;
 }
 
+/* Says how far the session is, and what each rule has cost. */
+static void say_figures(size_t length) {
+    static uint32_t figures[TARIFF_FIGURES], checks[TARIFF_RULES];
+    uint64_t total;
+    say("figures", tariff_figures(book, TARIFF_BOOK, session, length, figures, TARIFF_FIGURES));
+    printf("choices %u, take-backs %u, settled %u, rule contradicted %u\n", figures[TARIFF_CHOICES],
+           figures[TARIFF_TAKE_BACKS], figures[TARIFF_SETTLED], figures[TARIFF_RULE]);
+    uint64_t rules = tariff_checks(book, TARIFF_BOOK, session, length, checks, TARIFF_RULES);
+    say("checks", rules);
+    for (uint32_t rule = 1; rule <= tariff_number(rules); rule++)
+        printf("rule %u: %u\n", rule, checks[rule - 1]);
+    say("total", tariff_total(book, TARIFF_BOOK, session, length, &total));
+    printf("checks in all %llu\n", (unsigned long long)total);
+}
+
 int main(int count, char **words) {
     if (count != 3) fail("usage: put_away TARIFF FILE");
-    uint64_t checks;
     read_tariff(words[1]);
     size_t needed = tariff_number(tariff_required_length(book, TARIFF_BOOK));
     say("open", tariff_open(book, TARIFF_BOOK, session, needed));
@@ -57,11 +75,16 @@ int main(int count, char **words) {
     size_t length = take_up(words[2]);
     say("lookup 1 in the numbers taken up", tariff_lookup(book, TARIFF_BOOK, session, length, 1));
     say("choose -2", tariff_decide(book, TARIFF_BOOK, session, length, tariff_barred(2)));
-    say("total", tariff_total(book, TARIFF_BOOK, session, length, &checks));
-    printf("checks %llu\n", (unsigned long long)checks);
+    say_figures(length);
     session[4] ^= 1;
     say("back 1 with the first settled literal turned", tariff_backtrack(book, TARIFF_BOOK, session, length, 1));
     session[4] ^= 1;
     say("back 1", tariff_backtrack(book, TARIFF_BOOK, session, length, 1));
+    say("choose 5", tariff_decide(book, TARIFF_BOOK, session, length, tariff_wanted(5)));
+    say_figures(length);
+    say("choose -3 while the contradiction stands", tariff_decide(book, TARIFF_BOOK, session, length, tariff_barred(3)));
+    say("back 1", tariff_backtrack(book, TARIFF_BOOK, session, length, 1));
+    say("choose -3", tariff_decide(book, TARIFF_BOOK, session, length, tariff_barred(3)));
+    say_figures(length);
     return 0;
 }

@@ -1,5 +1,7 @@
 -- The answers as numbers for C: the kind times 2 ^ 32, and the number. Kind 0 is accepted, 1 a conflict, 2 a refusal.
 use Prim.Native.Nat.{ℕ, _+_, _*_}
+use mathlib.Core.List.{List, [], _∷_}
+use Rattle.base.specs.Lists.{copied}
 use Rattle.book.specs.declared.Reading.{Reading}
 use Rattle.book.specs.declared.Reading.the-variants as reading
 use Rattle.session.specs.declared.Answer.{Answer}
@@ -8,6 +10,8 @@ use Rattle.session.specs.declared.Back.{Back}
 use Rattle.session.specs.declared.Back.the-variants as back
 use Rattle.session.specs.declared.Assigned.{Assigned}
 use Rattle.session.specs.declared.Assigned.the-variants as assigned
+use Rattle.session.specs.declared.Shown.{Shown}
+use Rattle.session.specs.declared.Shown.the-variants as shown
 use Rattle.session.specs.declared.Sum.{Sum}
 use Rattle.session.specs.declared.Sum.the-variants as total
 use Rattle.session.specs.declared.Count.{Count}
@@ -46,6 +50,16 @@ assignedCode (assigned.Refused number) = refusalCode number
 abbrev pub countCode : Count → ℕ
 countCode (count.Of n) = n
 countCode (count.Refused number) = refusalCode number
+
+-- the figures are four numbers: decisions in force, accepted backtracks, trail length, the conflict clause's name (0 out of conflict).
+-- What fits of them is copied, as of the trail, and a refusal leaves the lent numbers
+abbrev pub figuresCode : Shown → ℕ
+figuresCode (shown.Of decisions backtracks trail conflict) = 4
+figuresCode (shown.Refused number) = refusalCode number
+
+abbrev pub figuresAfter : Shown → List ℕ → List ℕ
+figuresAfter (shown.Of decisions backtracks trail conflict) buffer = copied (decisions ∷ backtracks ∷ trail ∷ conflict ∷ []) buffer
+figuresAfter (shown.Refused number) buffer = buffer
 
 -- the sum of all checks goes to a place of its own, which a refusal leaves
 abbrev pub sumCode : Sum → ℕ

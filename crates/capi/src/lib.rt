@@ -1,11 +1,11 @@
 // The calls of book and session for C: slices as a pointer and a length, answers as one number.
 ghost use mathlib.Core.Path.{_≡_};
-ghost use lib.ListN.{length};
+ghost use lib.ListN.{length, set};
 ghost use Rattle.book.specs.Reading.{readText};
 ghost use Rattle.book.specs.Answer.{readAnswer, numbersAfter};
 ghost use Rattle.run.specs.Run.{trailBehind};
-ghost use Rattle.session.specs.Outcomes.{requiredAnswer, openAnswer, openNumbers, decideAnswer, decideNumbers, backtrackAnswer, backtrackNumbers, lookupAnswer, totalAnswer, copyAnswer, copyNumbers};
-ghost use Rattle.capi.specs.Codes.{refusalCode, readingCode, answerCode, backCode, assignedCode, countCode, sumCode, sumAfter};
+ghost use Rattle.session.specs.Outcomes.{requiredAnswer, openAnswer, openNumbers, decideAnswer, decideNumbers, backtrackAnswer, backtrackNumbers, lookupAnswer, figuresAnswer, totalAnswer, copyAnswer, copyNumbers, checksOfRun};
+ghost use Rattle.capi.specs.Codes.{refusalCode, readingCode, answerCode, backCode, assignedCode, countCode, figuresCode, figuresAfter, sumCode, sumAfter};
 
 fn refusal(number: u32) -> u64
     ensures { λ r. ⌜ r ≡ refusalCode number ⌝ }
@@ -62,6 +62,15 @@ fn count_code(count: session::Count) -> u64
     match count {
         session::Count::Of(n) => n as u64,
         session::Count::Refused(number) => refusal(number),
+    }
+}
+
+// Stores a number at a place of `out`, where there is one.
+fn put(number: u32, at: usize, out: &mut [u32])
+    ensures { λ r. ⌜ now (out .exit) ≡ set (now (out .entry)) at number ⌝ }
+{
+    if at < out.len() {
+        out[at] = number;
     }
 }
 
@@ -129,6 +138,38 @@ pub extern "C" fn tariff_trail_from(
     ensures { λ r. ⌜ now (out .exit) ≡ copyNumbers (now (book .entry)) (now (session .entry)) (trailBehind before) (now (out .entry)) ⌝ }
 {
     count_code(session::trail_from(book, session, before, out))
+}
+
+// Copies decisions in force, accepted backtracks, trail length and conflict clause to `out`: what fits.
+#[no_mangle]
+pub extern "C" fn tariff_figures(book: &[u32], session: &[u32], out: &mut [u32]) -> u64
+    ensures { λ r. ⌜ r ≡ figuresCode (figuresAnswer (now (book .entry)) (now (session .entry))) ⌝ }
+    ensures { λ r. ⌜ now (out .exit) ≡ figuresAfter (figuresAnswer (now (book .entry)) (now (session .entry))) (now (out .entry)) ⌝ }
+{
+    match session::figures(book, session) {
+        session::Shown::Of {
+            decisions,
+            backtracks,
+            trail,
+            conflict,
+        } => {
+            put(decisions, 0, out);
+            put(backtracks, 1, out);
+            put(trail, 2, out);
+            put(conflict, 3, out);
+            4
+        }
+        session::Shown::Refused(number) => refusal(number),
+    }
+}
+
+// Copies the checks of each clause to `out`: what fits.
+#[no_mangle]
+pub extern "C" fn tariff_checks(book: &[u32], session: &[u32], out: &mut [u32]) -> u64
+    ensures { λ r. ⌜ r ≡ countCode (copyAnswer (now (book .entry)) (now (session .entry)) checksOfRun) ⌝ }
+    ensures { λ r. ⌜ now (out .exit) ≡ copyNumbers (now (book .entry)) (now (session .entry)) checksOfRun (now (out .entry)) ⌝ }
+{
+    count_code(session::checks(book, session, out))
 }
 
 // The sum of all checks, into `sum`.

@@ -1,0 +1,95 @@
+/* The proved engine for C: the functions of libcapi.a, which `rt staticlib capi` writes to target/staticlib/. */
+#ifndef TARIFF_H
+#define TARIFF_H
+#include <stddef.h>
+#include <stdint.h>
+#ifdef __cplusplus
+extern "C" {
+#endif
+
+/* The most that a book has, and the most numbers that a book and a session need. */
+#define TARIFF_FEATURES 500
+#define TARIFF_RULES 1500
+#define TARIFF_BOOK 7504
+#define TARIFF_SESSION 11504
+
+/* An answer is its kind times 2^32, and a number. */
+#define TARIFF_ACCEPTED 0 /* the number is what the call is asked for */
+#define TARIFF_CONFLICT 1 /* the number names the rule that is contradicted, from 1 */
+#define TARIFF_REFUSED 2  /* the number is that of docs/REFUSALS.md; nothing lent has changed */
+
+static inline uint32_t tariff_kind(uint64_t answer) { return (uint32_t)(answer >> 32); }
+static inline uint32_t tariff_number(uint64_t answer) { return (uint32_t)answer; }
+
+/* A literal is 2 x feature, plus 1 if barred. */
+static inline uint32_t tariff_wanted(uint32_t feature) { return 2 * feature; }
+static inline uint32_t tariff_barred(uint32_t feature) { return 2 * feature + 1; }
+
+/* The places of the figures, and how many there are. */
+#define TARIFF_CHOICES 0    /* choices in force */
+#define TARIFF_TAKE_BACKS 1 /* accepted take-backs */
+#define TARIFF_SETTLED 2    /* settled literals, choices and forced ones */
+#define TARIFF_RULE 3       /* the rule that is contradicted, from 1; 0 where none is */
+#define TARIFF_FIGURES 4
+
+/* A lent part is a pointer and how many it holds; no two lent parts of a call overlap, and nobody else writes them meanwhile. No pointer is
+ * NULL, but for a part of length 0. A call writes only what its comment says, and where it refuses, nothing. What a session call is lent is examined first:
+ * a book at fault is 11, a session at fault or too short 12. */
+
+/* Reads the text of a rule book into book numbers.
+ * Accepted: 0. Writes the book's numbers, and nothing behind them.
+ * Refuses: 1 to 9 for what is wrong in the text, 10 where `book` is too short. */
+uint64_t tariff_read(const uint8_t *text, size_t text_length, uint32_t *book, size_t book_length);
+
+/* How long a session on this book is.
+ * Accepted: how many numbers it needs. Writes nothing.
+ * Refuses: 11. */
+uint64_t tariff_required_length(const uint32_t *book, size_t book_length);
+
+/* Opens a session, whatever the numbers held, and settles what the rules force.
+ * Accepted: how many literals were forced; or the rule that is contradicted. Writes the session's numbers, and nothing behind them.
+ * Refuses: 11, 10 where `session` is too short. */
+uint64_t tariff_open(const uint32_t *book, size_t book_length, uint32_t *session, size_t session_length);
+
+/* Makes a choice and settles what it forces.
+ * Accepted: how many literals were forced; or the rule that is contradicted. Writes the session's numbers.
+ * Refuses: 11, 12, 13 for a number that is no literal, 14 while a contradiction stands, 15 where the feature is settled. */
+uint64_t tariff_decide(const uint32_t *book, size_t book_length, uint32_t *session, size_t session_length, uint32_t literal);
+
+/* Takes the last k choices back, with all that was settled since the first of them; a contradiction is over.
+ * Accepted: 0. Writes the session's numbers.
+ * Refuses: 11, 12, 16 where k is 0 or over the choices in force, 17 after 1,000,000 take-backs. */
+uint64_t tariff_backtrack(const uint32_t *book, size_t book_length, uint32_t *session, size_t session_length, uint32_t k);
+
+/* How a feature is settled, in contradiction too.
+ * Accepted: 0 open, 1 wanted, 2 barred. Writes nothing.
+ * Refuses: 11, 12, 13 for a number that is no feature. */
+uint64_t tariff_lookup(const uint32_t *book, size_t book_length, const uint32_t *session, size_t session_length, uint32_t feature);
+
+/* The settled literals behind the first `before`, in the order in which they were settled.
+ * Accepted: how many there are. Writes as many of them as fit to `out`, and nothing behind them.
+ * Refuses: 11, 12. */
+uint64_t tariff_trail_from(const uint32_t *book, size_t book_length, const uint32_t *session, size_t session_length,
+                           uint32_t before, uint32_t *out, size_t out_length);
+
+/* The figures of the session, at the places above.
+ * Accepted: 4, how many there are. Writes as many of them as fit to `out`, and nothing behind them.
+ * Refuses: 11, 12. */
+uint64_t tariff_figures(const uint32_t *book, size_t book_length, const uint32_t *session, size_t session_length,
+                        uint32_t *out, size_t out_length);
+
+/* The checks that each rule has cost, rule 1 first.
+ * Accepted: how many rules there are. Writes as many of the counts as fit to `out`, and nothing behind them.
+ * Refuses: 11, 12. */
+uint64_t tariff_checks(const uint32_t *book, size_t book_length, const uint32_t *session, size_t session_length,
+                       uint32_t *out, size_t out_length);
+
+/* The sum of all checks.
+ * Accepted: 0. Writes the sum to *sum.
+ * Refuses: 11, 12. */
+uint64_t tariff_total(const uint32_t *book, size_t book_length, const uint32_t *session, size_t session_length, uint64_t *sum);
+
+#ifdef __cplusplus
+}
+#endif
+#endif
