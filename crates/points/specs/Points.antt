@@ -16,12 +16,13 @@ use Rattle.run.specs.Scan.{watched, next, oneMore, scanFrom, scan}
 use Rattle.run.specs.Run.{Run, trailBehind, size, cellOf, listOf, pushFront, takeOut, addChecks, otherWatch, moved, scannedAction, action, onTrail, withWatches, withConflict, counted, performAction, visit, readList, propagateFrom, firstCell, watchAll, fresh, assignUnit, assignUnits, openRun, decide, backtrack}
 use Rattle.run.specs.Calls.{Call, decision, backtrackBy, decideRefusal, backtrackRefusal, refusal, performCall, step, stepAll, reference}
 use Rattle.layout.specs.Layout.{valueNumber, levelNumber, nodeOf, watchLiteral, firstNode, behind, headNumber, linkNumber, watchNumber, encode, levelBefore, heldTrail, heldCells, chainFrom, heldLists, held}
-use Rattle.validation.specs.Validation.{hasReason, isJustified, isWatching, isGuarded, watchesHold, isFixpoint, isConflict, isListed, isValid, passes, callRefusal}
-use Rattle.session.specs.Outcomes.{sessionBacktrackRefusal, backtrackNumbers, overwritten}
+use Rattle.validation.specs.Validation.{hasReason, isJustified, isWatching, isGuarded, watchesHold, isFixpoint, isConflict, isListed, isValid, passes, callRefusal, readRefusal}
+use Rattle.session.specs.Outcomes.{sessionBacktrackRefusal, backtrackNumbers, overwritten, figuresAnswer}
+use Rattle.session.specs.declared.Shown.the-variants.{Of}
 use Rattle.script.specs.Script.{scriptLines, numbered, backOf, lineOf}
 use Rattle.script.specs.Answers.{bytes, signed, listed, callWords, impliedLine, clauseLine, backLine, refusedLine, endLine}
 use Rattle.script.specs.Desk.{propagatedLine, unlessRefused, answerTo, stepOf, answersTo, outputFor, deskOutput}
-use Rattle.run.specs.Ceiling.{checksOf, countBefore, countAtLatest, ceiling}
+use Rattle.run.specs.Ceiling.{checksOf, checksSince, countAtLatest, ceiling}
 
 -- n numbers from one on as text, each followed by a blank, and a 0; and as literals
 unfoldable pub counting : ℕ → ℕ → List ℕ
@@ -139,11 +140,14 @@ pub record MarkedPoints : Type 0 where
   -- C 0 opens with nothing forced.
   pub no-clauses-trail : openRun (noClauses 4) .trail ≡ []
   pub no-clauses-conflict : openRun (noClauses 4) .conflict ≡ 0
+  pub no-clauses-output : deskOutput (bytes "p cnf 4 0\n") [] ≡ bytes "open forced 0:\nend choices 0 backs 0 checks 0\n"
   -- Rules `1` and `-1`: `open rule 2`; a choice then gives 14, a take-back 16.
   pub opposed-text : readText (bytes "p cnf 1 2\n1 0\n-1 0\n") ≡ accepted opposed
   pub opposed-conflict : openRun opposed .conflict ≡ 2
   pub opposed-decision : refusal opposed (decision (positive 1)) (openRun opposed) ≡ 14
   pub opposed-backtrack : refusal opposed (backtrackBy 1) (openRun opposed) ≡ 16
+  pub opposed-output :
+      deskOutput (bytes "p cnf 1 2\n1 0\n-1 0\n") (bytes "1\nb 1\n") ≡ bytes "open rule 2\nrefused 14\nrefused 16\nend choices 0 backs 0 checks 0\n"
   -- The listing: its book and the lines `-1`, `-2`, `b 1`, `-3`, `1`, `b 3`; the trail at the opening and after each accepted line.
   pub listing-text : readText (bytes "p cnf 4 3\n1 2 3 0\n-3 4 0\n-4 -2 1 0\n") ≡ accepted listing
   pub listing-open : trailOldest (runAfter 0) ≡ []
@@ -163,8 +167,8 @@ pub record MarkedPoints : Type 0 where
   pub end-backtracks : runAfter 6 .backtracks ≡ 1
   pub end-checks : sum (runAfter 6 .checks) ≡ 4
   -- Rule 1 above has 2 checks before `b 1` and 1 after; its ceiling is 3 each time.
-  pub clause-1-before : checksOf (runAfter 2) 0 - countBefore listing 0 (take 2 calls) ≡ 2
-  pub clause-1-after : checksOf (runAfter 6) 0 - countBefore listing 0 calls ≡ 1
+  pub clause-1-before : checksSince listing 0 (take 2 calls) ≡ 2
+  pub clause-1-after : checksSince listing 0 calls ≡ 1
   pub clause-1-ceiling : ceiling (size listing 0) ≡ 3
   -- Rule 3 has 1, rule 2 none.
   pub clause-3 : checksOf (runAfter 6) 2 ≡ 1
@@ -173,7 +177,8 @@ pub record MarkedPoints : Type 0 where
   pub worn-decisions : length (decisions (worn 999999 .trail)) ≡ 2
   pub worn-taken : refusal listing (backtrackBy 1) (worn 999999) ≡ 0
   pub worn-refused : refusal listing (backtrackBy 1) (step listing (worn 999999) (backtrackBy 1)) ≡ 17
-  pub worn-held : held listing wornSession .backtracks ≡ 999999
+  pub worn-passes : passes listing wornSession ≡ true
+  pub worn-figures : figuresAnswer (numbersOf listing) wornSession ≡ Of 2 999999 4 0
   pub worn-session-taken : sessionBacktrackRefusal (numbersOf listing) wornSession 1 ≡ 0
   pub worn-session-refused : sessionBacktrackRefusal (numbersOf listing) (backtrackNumbers (numbersOf listing) wornSession 1) 1 ≡ 17
   -- Not marked, and pinned by no theorem: the order of a watch list. A rule goes to the front of its watches' lists at the opening; a
@@ -186,16 +191,19 @@ pub record MarkedPoints : Type 0 where
   pub order-read : trailOldest (reference crossed (decision (negative 1) ∷ [])) ≡ decided (negative 1) ∷ implied (positive 5) ∷ implied (positive 2) ∷ []
   pub order-kept : listOf (reference crossed (decision (negative 1) ∷ []) .lists) (positive 1) ≡ 2 ∷ 0 ∷ []
   -- Not marked: the faults that a desk would not notice. The scan goes on behind the pointer; the pointer stays over a take-back; a watch
-  -- does not move to a literal that is false and not yet handled. And a contradiction ends propagation.
+  -- does not move to a literal that is false and not yet handled. A contradiction ends propagation, and a take-back then takes the
+  -- literals that were not handled off the trail, too.
   pub scan-behind-pointer : checksOf (reference circled (decision (negative 1) ∷ decision (negative 3) ∷ [])) 0 ≡ 2
   pub pointer-stays : cellOf (reference circled (decision (negative 1) ∷ backtrackBy 1 ∷ [])) 0 ≡ record { first = 2; second = 1; pointer = 2 }
   pub unhandled-is-false : trailOldest (reference queued (decision (negative 1) ∷ [])) ≡ decided (negative 1) ∷ implied (negative 4) ∷ implied (positive 3) ∷ []
   pub unhandled-checks : checksOf (reference queued (decision (negative 1) ∷ [])) 0 ≡ 1
   pub conflict-ends-trail : trailOldest (reference torn (decision (negative 1) ∷ [])) ≡ decided (negative 1) ∷ implied (negative 2) ∷ []
   pub conflict-ends-named : reference torn (decision (negative 1) ∷ []) .conflict ≡ 2
+  pub unhandled-gone : trailOldest (reference torn (decision (negative 1) ∷ backtrackBy 1 ∷ [])) ≡ []
+  pub unhandled-open : refusal torn (decision (negative 2)) (reference torn (decision (negative 1) ∷ backtrackBy 1 ∷ [])) ≡ 0
 
 pub markedPoints : MarkedPoints
-unfolding scriptLines numbered backOf lineOf signed listed callWords impliedLine clauseLine backLine refusedLine endLine propagatedLine unlessRefused answerTo stepOf answersTo outputFor deskOutput trailBehind sum any distinct times table upTo soundClause sound starts numbersOf clausesFrom rising wellFormed valueNumber levelNumber nodeOf watchLiteral firstNode behind headNumber linkNumber watchNumber encode levelBefore heldTrail heldCells chainFrom heldLists held hasReason isJustified isWatching isGuarded watchesHold isFixpoint isConflict isListed isValid passes callRefusal sessionBacktrackRefusal backtrackNumbers overwritten all keep flat empty member same begins literalWithin blank lineEnd extend split notSkipped linesOf filled wordsOf decimal isDigit unsigned unsignedToken negativeToken tokenOf headed headerIn headerOf fault opened closed written notNumber overVariables wrongLength repeated surplus unfinished overLiterals faultsAt faultsFrom outside bodyOf faultsUnder faultsOf before earlier least onto clausesIn formulaUnder formulaIn judged readText digits opposite place literalAt isTrue decisions level lowered cut watched next oneMore scanFrom scan pushFront without takeOut addChecks otherWatch moved scannedAction action onTrail withWatches withConflict counted performAction visit readList propagateFrom firstCell watchAll fresh assignUnit assignUnits openRun decide backtrack decideRefusal backtrackRefusal refusal performCall step stepAll reference countAtLatest bytes counting positives reversed
+unfolding scriptLines numbered backOf lineOf signed listed callWords impliedLine clauseLine backLine refusedLine endLine propagatedLine unlessRefused answerTo stepOf answersTo outputFor deskOutput trailBehind sum any distinct times table upTo soundClause sound starts numbersOf clausesFrom rising wellFormed valueNumber levelNumber nodeOf watchLiteral firstNode behind headNumber linkNumber watchNumber encode levelBefore heldTrail heldCells chainFrom heldLists held hasReason isJustified isWatching isGuarded watchesHold isFixpoint isConflict isListed isValid passes callRefusal readRefusal sessionBacktrackRefusal backtrackNumbers overwritten figuresAnswer all keep flat empty member same begins literalWithin blank lineEnd extend split notSkipped linesOf filled wordsOf decimal isDigit unsigned unsignedToken negativeToken tokenOf headed headerIn headerOf fault opened closed written notNumber overVariables wrongLength repeated surplus unfinished overLiterals faultsAt faultsFrom outside bodyOf faultsUnder faultsOf before earlier least onto clausesIn formulaUnder formulaIn judged readText digits opposite place literalAt isTrue decisions level lowered cut watched next oneMore scanFrom scan pushFront without takeOut addChecks otherWatch moved scannedAction action onTrail withWatches withConflict counted performAction visit readList propagateFrom firstCell watchAll fresh assignUnit assignUnits openRun decide backtrack decideRefusal backtrackRefusal refusal performCall step stepAll reference countAtLatest bytes counting positives reversed
 markedPoints =
     record {
       literals-255 = refl;
@@ -207,10 +215,12 @@ markedPoints =
       empty-text = refl;
       no-clauses-trail = refl;
       no-clauses-conflict = refl;
+      no-clauses-output = refl;
       opposed-text = refl;
       opposed-conflict = refl;
       opposed-decision = refl;
       opposed-backtrack = refl;
+      opposed-output = refl;
       listing-text = refl;
       listing-open = refl;
       listing-1 = refl;
@@ -232,7 +242,8 @@ markedPoints =
       worn-decisions = refl;
       worn-taken = refl;
       worn-refused = refl;
-      worn-held = refl;
+      worn-passes = refl;
+      worn-figures = refl;
       worn-session-taken = refl;
       worn-session-refused = refl;
       order-open = refl;
@@ -247,4 +258,6 @@ markedPoints =
       unhandled-checks = refl;
       conflict-ends-trail = refl;
       conflict-ends-named = refl;
+      unhandled-gone = refl;
+      unhandled-open = refl;
     }
