@@ -19,5 +19,10 @@ for file in crates/*/specs/*.antt; do
     expect "| \`${file#crates/}\` | $lines |"
 done
 expect "| in all | $sum |"
+for file in $(grep -oE '^\| `[a-z]+/specs/[A-Za-z]+\.antt`' "$document" | tr -d '|` '); do
+    [ -f "crates/$file" ] && continue
+    echo "trust: $document names crates/$file, which is missing" >&2
+    wrong=1
+done
 [ "$wrong" = 0 ]
 echo "trust: $sum lines of definitions, as $document says"

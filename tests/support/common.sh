@@ -1,6 +1,9 @@
 # Shared by the test scripts: the program under test, the build of a test program, its cases, and wrong programs that it must notice.
 
 program=target/bin/desk
+# A program that calls the library from C is compiled with the folder of tariff.h and the library itself.
+library=(-Iinclude target/staticlib/libcapi.a)
+sanitizers=(-O1 -fsanitize=address,undefined -fno-sanitize-recover=all)
 
 need_program() {
     [ -x "$program" ] && return
@@ -8,10 +11,29 @@ need_program() {
     exit 1
 }
 
-# build NAME [LIBRARY...]: tests/NAME/main.cpp becomes target/tests/NAME.
+need_library() {
+    quiet rt staticlib capi
+}
+
+# quiet COMMAND...: what the command prints is shown where it fails, and nothing otherwise.
+quiet() {
+    local said code=0
+    said=$("$@" 2>&1) || code=$?
+    [ "$code" = 0 ] || printf '%s\n' "$said" >&2
+    return "$code"
+}
+
+# build NAME [ARGUMENT...]: tests/NAME/main.cpp becomes target/tests/NAME.
 build() {
+    compile "$1" "tests/$1/main.cpp" "${@:2}"
+}
+
+# compile NAME SOURCE [ARGUMENT...]: a program in C or C++ becomes target/tests/NAME; a warning is an error.
+compile() {
+    local compiler=(g++ -std=c++17)
+    [ "${2##*.}" = cpp ] || compiler=(gcc -std=c11)
     mkdir -p target/tests
-    g++ -std=c++17 -O2 -Wall -Wextra -o "target/tests/$1" "tests/$1/main.cpp" "${@:2}"
+    "${compiler[@]}" -O2 -Wall -Wextra -Werror -o "target/tests/$1" "${@:2}"
 }
 
 # self_test NAME CASES FAULT...: the test must fail on each wrong program within so many cases, and keep a case that can be run.

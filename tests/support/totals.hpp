@@ -20,12 +20,14 @@ struct Totals {
         for (const Clause& clause : formula.clauses) clause_length = std::max(clause_length, static_cast<int>(clause.size()));
     }
 
-    void add(const Session& session, const Answer& answer) {
+    void add(const Session& session, const Answer& answer) { add(static_cast<int>(session.decisions().size()), answer); }
+
+    void add(int decisions_in_force, const Answer& answer) {
         answers++;
         if (answer.kind == Answer::CONFLICT) ++(answer.decision == 0 ? opening_conflicts : later_conflicts);
         if (answer.kind == Answer::BACK) backtracks++, taken_back = std::max(taken_back, answer.number);
         if (answer.kind == Answer::REFUSED) refusals++;
-        decisions = std::max(decisions, static_cast<int>(session.decisions().size()));
+        decisions = std::max(decisions, decisions_in_force);
         implied = std::max(implied, static_cast<int>(answer.implied.size()));
     }
 

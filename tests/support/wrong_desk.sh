@@ -16,6 +16,9 @@ set -uo pipefail
     fault == "keeps choices" && $1 == "back" { $0 = "refused 16" }
     fault == "counts a choice too many" && $1 == "end" { $3++ }
     fault == "counts a take-back too many" && $1 == "end" { $5++ }
+    fault == "counts no checks" && $1 == "end" { $7 = 0 }
+    fault == "counts a check too few" && $1 == "end" { $7-- }
+    fault == "counts a check too many" && $1 == "end" { $7++ }
     fault == "checks above the ceiling" && $1 == "end" { $7 = 4000000000 }
     fault == "other refusals" && $1 == "refused" { $2 = $2 % 9 + 1 }
     fault == "a blank at the end of lines" { $0 = $0 " " }

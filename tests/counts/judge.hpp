@@ -1,0 +1,106 @@
+// Compares `desk` and the library with a run: every line that is printed, and every number after every call.
+#pragma once
+#include <cstddef>
+#include <cstdint>
+#include <functional>
+#include <string>
+#include <vector>
+
+#include "../support/answer.hpp"
+#include "../support/command.hpp"
+#include "library.hpp"
+#include "numbers.hpp"
+#include "run.hpp"
+
+// The answer of a run to a line of a script.
+inline Answer answer_line(Run& run, const std::string& line) {
+    Command command = parse_command(line);
+    if (command.kind == Command::DECIDE) return run.decide(literal_number(command.number));
+    if (command.kind == Command::BACKTRACK) return run.backtrack(static_cast<uint32_t>(command.number));
+    Answer malformed;
+    malformed.number = 18;
+    return malformed;
+}
+
+// What `desk` has to print; `visit(run, answer)` is called after the opening and after each line.
+template <class Visit>
+std::vector<std::string> expected_lines(Run& run, const std::string& script, Visit visit) {
+    std::vector<std::string> expected;
+    auto put = [&](const Answer& answer) {
+        visit(run, answer);
+        expected.push_back(print(answer));
+    };
+    put(run.open());
+    for (const std::string& line : lines_of(script)) put(answer_line(run, line));
+    expected.push_back(print(run.end()));
+    return expected;
+}
+
+inline void compare_lines(const std::vector<std::string>& expected, const std::string& output) {
+    expect(!output.empty() && output.back() == '\n', "the last byte printed is not 10");
+    std::vector<std::string> told = lines_of(output);
+    for (size_t i = 0; i < expected.size() && i < told.size(); i++)
+        if (told[i] != expected[i])
+            throw Disagreement("answer " + std::to_string(i) + " is `" + told[i].substr(0, 200) + "`, must be `" + expected[i].substr(0, 200) + "`");
+    expect(told.size() == expected.size(), std::to_string(told.size()) + " answers, must be " + std::to_string(expected.size()));
+}
+
+inline void compare_number(uint64_t seen, uint64_t expected, const std::string& name, size_t place) {
+    if (seen != expected)
+        throw Disagreement(name + " " + std::to_string(place) + " is " + std::to_string(seen) + ", must be " + std::to_string(expected));
+}
+
+// Every number that was lent; what lies behind the parts is as it was before. How many the parts are.
+inline size_t compare_numbers(const Numbers& numbers, const std::vector<Part>& parts, const Numbers& before) {
+    size_t at = 0;
+    for (const Part& part : parts) {
+        expect(part.numbers.size() <= numbers.size() - at, "fewer numbers than needed: " + part.name);
+        for (size_t i = 0; i < part.numbers.size(); i++, at++) compare_number(numbers[at], part.numbers[i], part.name, i);
+    }
+    size_t needed = at;
+    for (; at < numbers.size(); at++) compare_number(numbers[at], before[at], "behind the need: number", at);
+    return needed;
+}
+
+// An answer as a C call gives it.
+inline uint64_t c_answer(const Answer& answer) {
+    uint64_t kind = answer.kind == Answer::CONFLICT ? TARIFF_CONFLICT : answer.kind == Answer::REFUSED ? TARIFF_REFUSED : TARIFF_ACCEPTED;
+    uint64_t number = answer.kind == Answer::CONFLICT   ? static_cast<uint64_t>(answer.clause)
+                      : answer.kind == Answer::REFUSED ? static_cast<uint64_t>(answer.number)
+                                                       : answer.implied.size();
+    return kind << 32 | number;
+}
+
+// How a session is looked at: a wrong view changes what is seen.
+using View = std::function<void(Seen&)>;
+
+inline void compare_seen(const Run& run, const Library& library, const View& view) {
+    Seen seen = library.look();
+    view(seen);
+    size_t needed = compare_numbers(seen.numbers, session_parts(run), library.lent_session().before);
+    compare_number(library.required_length(), needed, "required length", 0);
+    compare_number(seen.counts.size(), run.clauses.size(), "number of counts", 0);
+    const std::string name = "checks of rule";
+    for (size_t i = 0; i < seen.counts.size(); i++) compare_number(seen.counts[i], run.clauses[i].checks, name, i + 1);
+    compare_number(seen.total, run.total(), "total of checks", 0);
+    const uint64_t figures[TARIFF_FIGURES] = {run.starts.size(), run.backtracks, run.trail.size(), run.conflict};
+    for (size_t i = 0; i < TARIFF_FIGURES; i++) compare_number(seen.figures[i], figures[i], "figure", i);
+}
+
+inline Answer answer_call(Run& run, const Call& call) { return call.back ? run.backtrack(call.number) : run.decide(call.number); }
+
+// The opening and each call by the library, beside the run; what is seen after each is compared, the book at the end.
+inline void compare_calls(Run& run, Library& library, const std::vector<Call>& calls, const View& view) {
+    size_t i = 0;
+    try {
+        compare_number(library.open(), c_answer(run.open()), "answer", 0);
+        compare_seen(run, library, view);
+        for (const Call& call : calls) {
+            compare_number(library.take(call), c_answer(answer_call(run, call)), "answer", ++i);
+            compare_seen(run, library, view);
+        }
+        compare_numbers(library.lent_book().numbers, book_parts(run.formula), library.lent_book().before);
+    } catch (const Disagreement& disagreement) {
+        throw Disagreement("call " + std::to_string(i) + " by the library: " + disagreement.what());
+    }
+}

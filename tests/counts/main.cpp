@@ -1,0 +1,222 @@
+// Compares every line of `desk`, and every number of a session after every call by the library, with a second run written from document 01.
+#include <algorithm>
+#include <cstddef>
+#include <cstdint>
+#include <iostream>
+#include <stdexcept>
+#include <string>
+#include <vector>
+
+#include "../support/bench.hpp"
+#include "../support/layout.hpp"
+#include "../support/play.hpp"
+#include "../support/shapes.hpp"
+#include "../support/totals.hpp"
+#include "judge.hpp"
+#include "wrong.hpp"
+
+namespace {
+
+constexpr uint64_t FIRST_SEED = 50030000;
+constexpr int CASES = 4000;
+constexpr int SELF_CHECKS = 120;
+
+// The run prints the listing of document 01, and its rules have the checks of the marked points.
+void check_listing() {
+    Formula formula{4, {{1, 2, 3}, {-3, 4}, {-4, -2, 1}}};
+    Run run(formula);
+    std::vector<std::string> printed = expected_lines(run, "-1\n-2\nb 1\n-3\n1\nb 3\n", [](const Run&, const Answer&) {});
+    std::vector<std::string> listing{
+        "open forced 0:", "choose -1 forced 0:", "choose -2 forced 2: 3 4", "back 1", "choose -3 forced 2: 2 -4", "refused 15", "refused 16",
+        "end choices 2 backs 1 checks 4",
+    };
+    if (printed != listing) throw std::runtime_error("the second run does not print document 01's listing");
+    if (run.clauses[0].checks != 3 || run.clauses[1].checks != 0 || run.clauses[2].checks != 1)
+        throw std::runtime_error("the second run does not count the checks of document 01's listing");
+}
+
+// The assignment that a run comes to when it is led from its own decisions to others.
+Assignment led_to(Run& run, const std::vector<int>& decisions) {
+    size_t common = 0;
+    while (common < std::min(run.starts.size(), decisions.size()) && run.trail[run.starts[common]] == decisions[common]) common++;
+    if (common < run.starts.size()) run.backtrack(static_cast<uint32_t>(run.starts.size() - common));
+    for (; common < decisions.size(); common++) run.decide(literal_number(decisions[common]));
+    Assignment assignment{run.conflict != 0, std::vector<int>(run.formula.variables + 1, 0)};
+    for (int variable = 1; variable <= run.formula.variables; variable++) assignment.values[variable] = run.value(variable);
+    return assignment;
+}
+
+// Long clauses over few variables: most decisions make some of their literals false, so pointers go round.
+Formula wide(Random& random) {
+    int variables = random.between(6, random.pick(std::vector<int>{12, 40, 120})), longest = std::min(variables, 40);
+    std::vector<int> lengths{3, random.between(4, longest), random.between(4, longest), longest};
+    return shapes::by_lengths(random, variables, random.between(1, 60), lengths, random.between(50, 100));
+}
+
+// Large formulas get fewer lines.
+int line_count(Random& random, const Formula& formula) {
+    int lines = random.between(4, 40 + 120000 / (1000 + literal_count(formula)));
+    return random.chance(10) ? 4 * lines : lines;
+}
+
+// The calls of a script; a malformed line becomes a call with a number that no line can ask for, or any other.
+std::vector<Call> calls_of(Random& random, const Formula& formula, const std::string& script) {
+    uint32_t last = 2 * static_cast<uint32_t>(formula.variables) + 1, any = static_cast<uint32_t>(random.next());
+    std::vector<Call> calls;
+    for (const std::string& line : lines_of(script)) {
+        Command command = parse_command(line);
+        if (command.kind == Command::MALFORMED)
+            calls.push_back({random.chance(50), random.pick(std::vector<uint32_t>{0, 1, last + 1, last + 2, 0x80000000u, 0xffffffffu, any})});
+        else if (command.kind == Command::BACKTRACK)
+            calls.push_back({true, static_cast<uint32_t>(command.number)});
+        else
+            calls.push_back({false, literal_number(command.number)});
+    }
+    return calls;
+}
+
+struct Generated {
+    Formula formula;
+    Case example;
+    std::vector<Call> calls;
+    uint64_t seed = 0;  // of the lent memory
+};
+
+// Every third case is wide, and its decisions mostly make literals false.
+Generated generate(int number, uint64_t seed) {
+    static const shapes::Shape wide_shape{"wide", wide, 0};
+    bool is_wide = number % 3 == 2;
+    const shapes::Shape& shape = is_wide ? wide_shape : shapes::of_case(number / 3 * 2 + number % 3);
+    Random random(seed);
+    Generated made;
+    made.formula = shape.make(random);
+    std::string book = random.chance(30) ? Layout(random).print(made.formula) : dimacs(made.formula);
+    Run run(made.formula);
+    run.open();
+    Player player(random, [&](const std::vector<int>& decisions) { return led_to(run, decisions); }, is_wide ? random.between(0, 40) : 50);
+    std::string script = player.write(line_count(random, made.formula)).script;
+    made.example = Case{shape.name, seed, book, script, 0};
+    made.calls = calls_of(random, made.formula, script);
+    made.seed = random.next();
+    return made;
+}
+
+std::vector<std::string> lines_by(const Generated& made, Fault fault) {
+    Run run(made.formula, fault);
+    return expected_lines(run, made.example.script, [](const Run&, const Answer&) {});
+}
+
+// The library beside a run, right or wrong, seen rightly or wrongly.
+void compare_library(const Generated& made, Fault fault, const View& view) {
+    Random random(made.seed);
+    Library library(random, *made.example.book);
+    Run run(made.formula, fault);
+    compare_calls(run, library, made.calls, view);
+}
+
+// How often a wrong run or view was noticed: by the numbers after each call, and by the lines alone.
+struct Noticed {
+    int by_numbers = 0, by_lines = 0;
+
+    void add(const Generated& made, const Wrong& wrong, const std::vector<std::string>& expected) {
+        try {
+            compare_library(made, wrong.fault, wrong.view);
+        } catch (const Disagreement&) {
+            by_numbers++;
+        }
+        if (wrong.fault != Fault::NONE && lines_by(made, wrong.fault) != expected) by_lines++;
+    }
+};
+
+// Every wrong run and every wrong view has to differ from the proved engine in some of the first cases.
+void check_wrong(int count) {
+    std::vector<Noticed> noticed(wrong_list().size());
+    for (int number = 0; number < count; number++) {
+        Generated made = generate(number, FIRST_SEED + static_cast<uint64_t>(number));
+        std::vector<std::string> expected = lines_by(made, Fault::NONE);
+        for (size_t i = 0; i < noticed.size(); i++) noticed[i].add(made, wrong_list()[i], expected);
+    }
+    std::cout << "counts: wrong runs and views noticed, in so many of " << count << " cases:";
+    for (size_t i = 0; i < noticed.size(); i++) {
+        const Wrong& wrong = wrong_list()[i];
+        bool is_run = wrong.fault != Fault::NONE;
+        if (noticed[i].by_numbers == 0 || (is_run && noticed[i].by_lines == 0)) throw std::runtime_error("not noticed: " + wrong.name);
+        std::cout << (i == 0 ? " " : ", ") << wrong.name << " " << noticed[i].by_numbers;
+        if (is_run) std::cout << " (" << noticed[i].by_lines << " by lines alone)";
+    }
+    std::cout << std::endl;
+}
+
+struct Work {
+    uint64_t calls = 0, numbers = 0, checks = 0;
+};
+
+void run_case(Bench& bench, int number, uint64_t seed, Totals& totals, Work& work) {
+    Generated made = generate(number, seed);
+    totals.add(made.formula);
+    Run run(made.formula);
+    auto count = [&](const Run& now, const Answer& answer) { totals.add(static_cast<int>(now.starts.size()), answer); };
+    std::vector<std::string> expected = expected_lines(run, made.example.script, count);
+    bench.run(made.example, [&](const std::string& output) {
+        compare_lines(expected, output);
+        compare_library(made, Fault::NONE, [&](Seen& seen) { work.calls++, work.numbers += seen.numbers.size(); });
+    });
+    work.checks += run.total();
+}
+
+// 1,000,000 backtracks are taken by the library, the next is refused by 17, and every check on the way is counted.
+void compare_million(const Formula& formula) {
+    Random random(FIRST_SEED);
+    Library library(random, dimacs(formula));
+    Run run(formula);
+    View plain = [](Seen&) {};
+    compare_calls(run, library, {}, plain);
+    const std::string name = "answer, after take-backs";
+    auto take = [&](bool back, uint32_t number) {
+        Call call{back, number};
+        compare_number(library.take(call), c_answer(answer_call(run, call)), name, run.backtracks);
+    };
+    for (uint64_t i = 0; i <= MAX_BACKTRACKS; i++) {
+        for (int decisions = random.between(1, 2); decisions > 0; decisions--) take(false, static_cast<uint32_t>(random.between(2, 11)));
+        take(true, static_cast<uint32_t>(run.starts.size()));
+        if (i % 1000 >= 998 || i == MAX_BACKTRACKS) compare_seen(run, library, plain);
+    }
+    std::cout << "counts: by the library " << run.backtracks << " take-backs and " << run.total() << " checks on one book\n";
+}
+
+void run_million(Bench& bench) {
+    Formula formula{5, {{1, 2, 3, 4, 5}, {-1, -2, 3, -4}, {2, -3, 5}}};
+    bench.run(Case{"million", 0, dimacs(formula), "", 0}, [&](const std::string&) { compare_million(formula); });
+}
+
+// The longest answer that there is: one decision makes the 499 other variables false. The script lacks its last byte 10.
+void run_longest(Bench& bench) {
+    Formula formula{MAX_VARIABLES, {}};
+    for (int variable = 1; variable < MAX_VARIABLES; variable++) formula.clauses.push_back({variable, -(variable + 1)});
+    std::string script = "-1\nb 1\n-1";
+    Run run(formula);
+    std::vector<std::string> expected = expected_lines(run, script, [](const Run&, const Answer&) {});
+    bench.run(Case{"longest", 0, dimacs(formula), script, 0}, [&](const std::string& output) { compare_lines(expected, output); });
+    std::cout << "counts: the longest answer has " << expected[1].size() + 1 << " bytes\n";
+}
+
+int test(int argc, char** argv) {
+    Bench bench(argc, argv, CASES);
+    check_listing();
+    check_wrong(std::min(bench.case_count(), SELF_CHECKS));
+    Totals totals;
+    Work work;
+    bench.run_cases("counts", FIRST_SEED, [&](int number, uint64_t seed) { run_case(bench, number, seed, totals, work); });
+    run_longest(bench);
+    if (bench.case_count() == CASES) run_million(bench);
+    std::cout << "counts: " << work.checks << " checks in the last lines; by the library " << work.numbers << " numbers after " << work.calls
+              << " calls\n";
+    totals.print("counts", bench.seconds());
+    return bench.exit_code();
+}
+
+}  // namespace
+
+int main(int argc, char** argv) {
+    return guarded([&] { return test(argc, argv); });
+}

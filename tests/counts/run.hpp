@@ -1,0 +1,226 @@
+// The written run of document 01, from the paper and not from the definitions or the code: trail, watches, pointers, lists, conflict, counts of checks.
+#pragma once
+#include <cstddef>
+#include <cstdint>
+#include <cstdlib>
+#include <deque>
+#include <limits>
+#include <list>
+#include <numeric>
+#include <optional>
+#include <string>
+#include <vector>
+
+#include "../support/answer.hpp"
+#include "../support/formula.hpp"
+#include "../support/session.hpp"
+
+// One step taken otherwise than document 01 says.
+enum class Fault {
+    NONE,
+    SCANS_FROM_ZERO,     // a scan starts at position 0, not behind the pointer
+    SCANS_SATISFIED,     // a clause is scanned although its other watch is true
+    RESTORES_POINTERS,   // a backtrack puts the pointers back
+    MOVES_TO_UNHANDLED,  // a watch moves to a literal that is false but not handled yet
+    KEEPS_UNHANDLED,     // unhandled literals stay to be handled over a backtrack
+    PUTS_BEHIND,         // a clause goes to the back of a watch list
+};
+
+// A literal as a number: 2 x variable, plus 1 if negative.
+inline uint32_t literal_number(int literal) { return 2 * static_cast<uint32_t>(std::abs(literal)) + (literal < 0 ? 1 : 0); }
+inline int literal_of(uint32_t number) { return number % 2 == 0 ? static_cast<int>(number / 2) : -static_cast<int>(number / 2); }
+
+// What the run keeps of a clause; a clause of one literal has no watches and no pointer.
+struct Watched {
+    int positions[2] = {0, 0};
+    int pointer = 0;
+    uint32_t checks = 0;
+};
+
+class Run {
+public:
+    explicit Run(const Formula& formula, Fault fault = Fault::NONE)
+        : formula(formula), fault(fault), clauses(formula.clauses.size()), lists(2 * static_cast<size_t>(formula.variables) + 2),
+          values(formula.variables + 1, 0) {}
+
+    Answer open() {
+        for (size_t clause = 0; clause < clauses.size(); clause++)
+            if (formula.clauses[clause].size() >= 2) watch_first_two(clause);
+        for (size_t clause = 0; clause < clauses.size() && conflict == 0; clause++)
+            if (formula.clauses[clause].size() == 1) imply_or_contradict(clause, formula.clauses[clause][0]);
+        propagate();
+        return propagated(0, 0);
+    }
+
+    // Any number may be asked for; one that is no literal, or is refused otherwise, changes nothing.
+    Answer decide(uint32_t number) {
+        int refusal = decision_refusal(number);
+        if (refusal != 0) return refused(refusal);
+        if (fault == Fault::RESTORES_POINTERS) kept.push_back(clauses);
+        starts.push_back(trail.size());
+        assign(literal_of(number));
+        propagate();
+        return propagated(literal_of(number), starts.back() + 1);
+    }
+
+    Answer backtrack(uint32_t k) {
+        if (k == 0 || k > starts.size()) return refused(16);
+        if (backtracks == MAX_BACKTRACKS) return refused(17);
+        size_t level = starts.size() - k;
+        for (; trail.size() > starts[level]; trail.pop_back()) values[std::abs(trail.back())] = 0;
+        starts.resize(level);
+        conflict = 0;
+        backtracks++;
+        if (fault != Fault::KEEPS_UNHANDLED) unhandled.clear();  // those of lower levels were handled when their calls ended
+        if (fault == Fault::RESTORES_POINTERS) restore_pointers(level);
+        Answer answer;
+        answer.kind = Answer::BACK;
+        answer.number = static_cast<int>(k);
+        return answer;
+    }
+
+    Answer end() const {
+        Answer answer;
+        answer.kind = Answer::END;
+        answer.decisions = starts.size();
+        answer.backtracks = backtracks;
+        answer.checks = total();
+        return answer;
+    }
+
+    // Of each trail place: the decisions up to and including it.
+    std::vector<uint32_t> levels() const {
+        std::vector<uint32_t> found;
+        uint32_t level = 0;
+        for (size_t place = 0; place < trail.size(); place++) {
+            if (level < starts.size() && starts[level] == place) level++;
+            found.push_back(level);
+        }
+        return found;
+    }
+
+    uint64_t total() const {
+        return std::accumulate(clauses.begin(), clauses.end(), uint64_t{0}, [](uint64_t sum, const Watched& w) { return sum + w.checks; });
+    }
+
+    int value(int literal) const { return literal > 0 ? values[literal] : -values[-literal]; }
+
+    const Formula& formula;
+    const Fault fault;
+    std::vector<int> trail;
+    std::vector<size_t> starts;  // the place of each decision on the trail
+    std::vector<Watched> clauses;
+    std::vector<std::list<size_t>> lists;  // by literal number: clauses, from 0, front to back
+    size_t conflict = 0;                   // the conflict clause, from 1; 0 out of conflict
+    uint64_t backtracks = 0;
+
+private:
+    static Answer refused(int number) {
+        Answer answer;
+        answer.number = number;
+        return answer;
+    }
+
+    int decision_refusal(uint32_t number) const {
+        if (number < 2 || number > 2 * static_cast<uint32_t>(formula.variables) + 1) return 13;
+        if (conflict != 0) return 14;
+        return value(literal_of(number)) != 0 ? 15 : 0;
+    }
+
+    // What an opening or a decision comes to; the literals from a place on were implied by it.
+    Answer propagated(int decision, size_t from) const {
+        Answer answer;
+        answer.kind = conflict != 0 ? Answer::CONFLICT : Answer::IMPLIED;
+        answer.decision = decision;
+        answer.clause = static_cast<int>(conflict);
+        if (conflict == 0) answer.implied.assign(trail.begin() + static_cast<std::ptrdiff_t>(from), trail.end());
+        return answer;
+    }
+
+    void watch_first_two(size_t clause) {
+        clauses[clause] = Watched{{0, 1}, 1, 0};
+        for (int position : {0, 1}) put(clause, formula.clauses[clause][position]);
+    }
+
+    // To the front of a literal's watch list.
+    void put(size_t clause, int literal) {
+        std::list<size_t>& list = lists[literal_number(literal)];
+        list.insert(fault == Fault::PUTS_BEHIND ? list.end() : list.begin(), clause);
+    }
+
+    void assign(int literal) {
+        trail.push_back(literal);
+        values[std::abs(literal)] = literal > 0 ? 1 : -1;
+        unhandled.push_back(literal);
+    }
+
+    // All other literals of the clause are false: an open one is implied, a false one is a conflict.
+    void imply_or_contradict(size_t clause, int literal) {
+        if (value(literal) == 0) assign(literal);
+        if (value(literal) < 0) conflict = clause + 1;
+    }
+
+    // Trail literals are handled once each, in trail order, until a conflict.
+    void propagate() {
+        while (conflict == 0 && !unhandled.empty()) {
+            int literal = unhandled.front();
+            unhandled.pop_front();
+            read_list(-literal);
+        }
+    }
+
+    // Front to back; a clause whose watch moves leaves the list. A conflict ends it.
+    void read_list(int literal) {
+        std::list<size_t>& list = lists[literal_number(literal)];
+        for (auto at = list.begin(); at != list.end() && conflict == 0;) {
+            bool moved = visit(*at, literal);
+            at = moved ? list.erase(at) : std::next(at);
+        }
+    }
+
+    // A clause on the list of `literal`; true where its watch moves to another literal.
+    bool visit(size_t clause, int literal) {
+        Watched& watched = clauses[clause];
+        const Clause& literals = formula.clauses[clause];
+        int read = literals[watched.positions[0]] == literal ? 0 : 1;
+        int other = literals[watched.positions[1 - read]];
+        if (value(other) > 0 && fault != Fault::SCANS_SATISFIED) return false;
+        std::optional<int> found = scan(literals, watched);
+        if (!found) {
+            imply_or_contradict(clause, other);
+            return false;
+        }
+        watched.positions[read] = *found;
+        watched.pointer = *found;
+        put(clause, literals[*found]);
+        return true;
+    }
+
+    // The first position behind the pointer, round the clause, that is neither watched nor false; each one looked at is a check.
+    std::optional<int> scan(const Clause& literals, Watched& watched) {
+        int n = static_cast<int>(literals.size()), first = fault == Fault::SCANS_FROM_ZERO ? 0 : watched.pointer + 1;
+        for (int visited = 0; visited < n; visited++) {
+            int position = (first + visited) % n;
+            if (position == watched.positions[0] || position == watched.positions[1]) continue;
+            if (watched.checks < std::numeric_limits<uint32_t>::max()) watched.checks++;
+            if (value(literals[position]) >= 0 || passes_for_open(literals[position])) return position;
+        }
+        return std::nullopt;
+    }
+
+    bool passes_for_open(int literal) const {
+        if (fault != Fault::MOVES_TO_UNHANDLED) return false;
+        for (int waiting : unhandled)
+            if (waiting == -literal) return true;
+        return false;
+    }
+
+    void restore_pointers(size_t level) {
+        for (size_t clause = 0; clause < clauses.size(); clause++) clauses[clause].pointer = kept[level][clause].pointer;
+        kept.resize(level);
+    }
+
+    std::vector<int> values;                 // by variable: 1 true, -1 false, 0 open
+    std::deque<int> unhandled;               // trail literals, the oldest first
+    std::vector<std::vector<Watched>> kept;  // before each decision, for the fault that restores pointers
+};

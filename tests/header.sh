@@ -1,0 +1,149 @@
+#!/usr/bin/env bash
+# The C header and the bench's declarations are those of the functions that crates/capi and bench/steps.rt.txt export: names, lent parts in
+# their order, numbers, result; the header compiles and its limits are the book's. Then copies with one declaration damaged must be noticed, by its name.
+set -euo pipefail
+cd "$(dirname "$0")/.."
+source=crates/capi/src/lib.rt
+header=include/tariff.h
+bench=bench/src/proved.rs
+steps_source=bench/steps.rt.txt
+steps=bench/src/steps.rs
+limits=crates/book/src/limits.rt
+wrong=target/tests/header.wrong
+
+# Each of these prints a line `NAME PARAMETER.. -> RESULT` for each function of a file; a parameter is `part:bytes`, `part:numbers`,
+# `part:mut-numbers`, `part:mut-u64` or `u32`; what is none of these stays as it is written.
+
+# A text of Rattle or Rust without comments, in one line.
+code_of() {
+    sed 's,//.*,,' "$1" | tr '\n' ' ' | sed -E 's,/\*[^*]*\*+([^/*][^*]*\*+)*/,,g'
+}
+
+# The exported functions of a crate.
+exported() {
+    code_of "$1" | grep -oE '#\[no_mangle\] +pub extern "C" fn [^{]*' |
+        sed -E 's/.* fn ([a-z_0-9]+) *\(([^)]*)\) *(-> *([a-z0-9]+))?.*/\1 \2 -> \4/' |
+        sed -E 's/,? -> / -> /; s/([a-z]+): *&\[u8\]/\1:bytes/g; s/([a-z]+): *&\[u32\]/\1:numbers/g;
+                s/([a-z]+): *&mut \[u32\]/\1:mut-numbers/g; s/([a-z]+): *&mut u64/\1:mut-u64/g; s/[a-z]+: *u32/u32/g' | tidy
+}
+
+# The declarations of a C header, as a compiler sees them; a part and its length are named alike, and a result is nothing but its type.
+# Functions of the header itself, `static inline` with a body, are left out.
+declared_in_c() {
+    gcc -E -P "$1" | tr '\n' ' ' | sed -E ':again; s/\{[^{}]*\}/<body>;/; t again' | tr ';' '\n' | grep 'tariff_' |
+        grep -vE '^ *static inline uint32_t tariff_[a-z]+\([^()]*\) <body>$' |
+        sed -E 's/^ *([^(]*[ *])(tariff_[a-z_0-9]+)\((.*)\) *$/\2 \3 -> \1/; s/ +$//' |
+        sed -E 's/const uint8_t \*([a-z]+), *size_t \1_length/\1:bytes/g; s/const uint32_t \*([a-z]+), *size_t \1_length/\1:numbers/g;
+                s/uint32_t \*([a-z]+), *size_t \1_length/\1:mut-numbers/g; s/uint64_t \*([a-z]+)/\1:mut-u64/g;
+                s/uint32_t [a-z]+/u32/g; s/-> uint64_t$/-> u64/' | tidy
+}
+
+# The declarations of a Rust file in its `extern "C"` block; each is `fn` from its start on.
+declared_in_rust() {
+    code_of "$1" | grep -oE 'extern "C" \{[^}]*\}' | sed 's,^extern "C" {,,' | tr ';' '\n' | grep 'fn ' |
+        sed -E 's/^ *fn ([a-z_0-9]+)\((.*)\) *(-> *([a-z0-9]+))? *$/\1 \2 -> \4/' |
+        sed -E 's/,? *-> / -> /; s/([a-z]+): \*const u8, *[a-z]: usize/\1:bytes/g; s/([a-z]+): \*const u32, *[a-z]: usize/\1:numbers/g;
+                s/([a-z]+): \*mut u32, *[a-z]: usize/\1:mut-numbers/g; s/([a-z]+): \*mut u64/\1:mut-u64/g; s/[a-z]+: u32/u32/g' | tidy
+}
+
+# The limits, as the crate `book` has them, and as a header has them.
+limits_of_the_book() {
+    local variables clauses literals
+    variables=$(limit MAX_VARIABLES) clauses=$(limit MAX_CLAUSES) literals=$(limit MAX_LITERALS)
+    echo "TARIFF_BOOK $((clauses + literals + 4))"
+    echo "TARIFF_FEATURES $variables"
+    echo "TARIFF_RULES $clauses"
+    echo "TARIFF_SESSION $((5 * variables + 6 * clauses + 4))"
+}
+
+limit() {
+    sed -nE "s/^pub const $1: usize = ([0-9]+);/\\1/p" "$limits"
+}
+
+# A macro under the name of a function is none of the limits, and stands out.
+limits_in_c() {
+    gcc -E -dM "$1" | sed -nE 's/^#define ((TARIFF_(BOOK|FEATURES|RULES|SESSION) |tariff_).*)$/\1/p' | sort
+}
+
+tidy() {
+    sed -E 's/, */ /g; s/ +/ /g; s/ $//' | sort
+}
+
+# same SOURCE HEADER BENCH STEPS_SOURCE STEPS: says each function and limit that differs, and fails where one does.
+same() {
+    local code=0
+    against "$2" "$(limits_of_the_book)" "$(limits_in_c "$2")" || code=1
+    against "$2" "$(exported "$1")" "$(declared_in_c "$2")" || code=1
+    against "$3" "$(exported "$1")" "$(declared_in_rust "$3")" || code=1
+    against "$5" "$(exported "$4")" "$(declared_in_rust "$5")" || code=1
+    return $code
+}
+
+# against FILE EXPORTED DECLARED: the lines that only one of the two has.
+against() {
+    [ "$2" = "$3" ] && return
+    comm -23 <(echo "$2") <(echo "$3") | sed -n "s,^.,header: $1 lacks: &,p"
+    comm -13 <(echo "$2") <(echo "$3") | sed -n "s,^.,header: $1 has: &,p"
+    return 1
+}
+
+# notices FILE NAME EDIT: with this sed edit of this one file the comparison fails and names this function or limit and no other.
+notices() {
+    local files=("$source" "$header" "$bench" "$steps_source" "$steps") i said
+    for i in "${!files[@]}"; do
+        [ "${files[$i]}" = "$1" ] || continue
+        files[i]=$wrong/${1##*/}
+        sed -E "$3" "$1" >"${files[$i]}"
+        cmp -s "$1" "${files[$i]}" && { echo "header: an edit changes nothing: $3" >&2; exit 1; }
+    done
+    if said=$(same "${files[@]}") || [ "$(grep -oE '(tariff|TARIFF|step)_[A-Za-z_]+[ (]' <<<"$said" | tr '(' ' ' | sort -u)" != "$2 " ]; then
+        echo "header: not noticed as $2 in $1: $3" >&2
+        exit 1
+    fi
+    noticed=$((noticed + 1))
+}
+
+gcc -std=c11 -Wall -Wextra -Werror -fsyntax-only -x c "$header"
+g++ -std=c++17 -Wall -Wextra -Werror -fsyntax-only -x c++ "$header"
+same "$source" "$header" "$bench" "$steps_source" "$steps" >&2
+echo "header: $(exported "$source" | wc -l) functions, as $header and $bench declare them, and $(exported "$steps_source" | wc -l) steps, as $steps does"
+mkdir -p "$wrong"
+noticed=0
+notices "$header" tariff_total '/^uint64_t tariff_total/d'
+notices "$header" tariff_total 's,^uint64_t tariff_total,// &,'
+notices "$header" tariff_total 's,^uint64_t tariff_total.*,/* & */,'
+notices "$header" tariff_total 's/^uint64_t tariff_total.*/#if 0\n&\n#endif/'
+notices "$header" tariff_total 's/^uint64_t tariff_total/static &/'
+notices "$header" tariff_total 's/^(uint64_t tariff_total.*);/static inline \1 { return 0; }/'
+notices "$header" tariff_total '$a #define tariff_total(...) 0'
+notices "$header" tariff_close '$a uint64_t tariff_close(uint32_t *session, size_t session_length);'
+notices "$header" tariff_lookup '/tariff_lookup/s/const uint32_t \*session/uint32_t *session/'
+notices "$header" tariff_lookup '/tariff_lookup/s/book/other/g; /tariff_lookup/s/session/book/g; /tariff_lookup/s/other/session/g'
+notices "$header" tariff_backtrack '/tariff_backtrack/s/uint32_t k/uint64_t k/'
+notices "$header" tariff_backtrack '/tariff_backtrack/s/, uint32_t k//'
+notices "$header" tariff_open '/^uint64_t tariff_open/s/uint64_t/uint32_t/'
+notices "$header" tariff_read '/tariff_read/s/uint8_t/uint32_t/'
+notices "$header" tariff_required_length '/tariff_required_length/s/, size_t book_length//'
+notices "$header" tariff_trail_from 's/uint32_t before, uint32_t \*out, size_t out_length/uint32_t *out, size_t out_length, uint32_t before/'
+notices "$header" TARIFF_SESSION '/define TARIFF_SESSION/s/11504/11503/'
+notices "$header" TARIFF_BOOK '/define TARIFF_BOOK/d'
+notices "$header" TARIFF_RULES 's,^#define TARIFF_RULES,// &,'
+notices "$header" TARIFF_FEATURES 's/^#define TARIFF_FEATURES.*/&\n#undef TARIFF_FEATURES/'
+notices "$bench" tariff_open 's,fn tariff_open.*,/* & */,'
+notices "$bench" tariff_open 's,fn tariff_open,// &,'
+notices "$bench" tariff_open 's/fn tariff_open/#[cfg(test)] &/'
+notices "$bench" tariff_open '/fn tariff_open/d'
+notices "$bench" tariff_close 's/^(extern "C" \{)/\1 fn tariff_close(session: *mut u32, n: usize) -> u64;/'
+notices "$bench" tariff_decide '/fn tariff_decide/s/literal: u32/literal: u64/'
+notices "$bench" tariff_total '/fn tariff_total/s/sum: \*mut u64/sum: *mut u32/'
+notices "$bench" tariff_lookup '/fn tariff_lookup/s/session: \*const/session: *mut/'
+notices "$bench" tariff_read '/fn tariff_read/s/u64;/u32;/'
+notices "$source" tariff_open '/fn tariff_open/s/tariff_open/tariff_open(other: u32, /; /fn tariff_open/s/, \(book/, book/'
+notices "$source" tariff_lookup '/fn tariff_lookup/s/session: &\[u32\]/session: \&mut [u32]/'
+notices "$steps" step_decide '/fn step_decide/d'
+notices "$steps" step_decide '/fn step_decide/s/literal: u32/literal: u64/'
+notices "$steps" step_backtrack '/fn step_backtrack/s/session: \*mut/session: *const/'
+notices "$steps" step_backtrack '/fn step_backtrack/s/;/ -> u64;/'
+notices "$steps_source" step_decide '/fn step_decide/s/, literal: u32//'
+notices "$steps_source" step_backtrack '/fn step_backtrack/s/k: u32\)/k: u32) -> u64/'
+echo "header: notices $noticed wrong declarations"
