@@ -8,6 +8,11 @@ fn run(command: &mut Command) {
     assert!(status.success(), "{command:?} failed");
 }
 
+fn said(command: &mut Command) -> String {
+    let output = command.output().expect("the command starts");
+    String::from_utf8_lossy(&output.stdout).trim().to_string()
+}
+
 fn main() {
     let out = env::var("OUT_DIR").expect("cargo sets OUT_DIR");
     let root = env::var("CARGO_MANIFEST_DIR").expect("cargo sets CARGO_MANIFEST_DIR");
@@ -20,8 +25,14 @@ fn main() {
     println!("cargo:rustc-link-search=native={}", staticlib.display());
     println!("cargo:rustc-link-lib=static=shim");
     println!("cargo:rustc-link-lib=static=capi");
+    println!("cargo:rustc-link-lib=static=steps");
     println!("cargo:rustc-link-lib=cadical");
     println!("cargo:rustc-link-lib=stdc++");
     println!("cargo:rerun-if-changed=shim/cadical.cpp");
     println!("cargo:rerun-if-changed={}", staticlib.join("libcapi.a").display());
+    println!("cargo:rerun-if-changed={}", staticlib.join("libsteps.a").display());
+    println!(
+        "cargo:rustc-env=RUSTC_VERSION={}",
+        said(Command::new(env::var("RUSTC").expect("cargo sets RUSTC")).arg("--version"))
+    );
 }

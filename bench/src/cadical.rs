@@ -1,4 +1,5 @@
-//! CaDiCaL, asked afresh: a new solver for every question.
+//! CaDiCaL: asked afresh, a new solver for every question, and kept, one solver for all questions on a book.
+use std::ffi::{c_char, c_void, CStr};
 
 extern "C" {
     fn cadical_ask(
@@ -9,6 +10,20 @@ extern "C" {
         fixed: *mut i32,
         variables: usize,
     ) -> i32;
+    fn cadical_keep(clauses: *const i32, n: usize) -> *mut c_void;
+    fn cadical_ask_kept(solver: *mut c_void, assumptions: *const i32, m: usize) -> i32;
+    fn cadical_drop(solver: *mut c_void);
+    fn cadical_signature() -> *const c_char;
+}
+
+/// What CaDiCaL answers in conflict.
+const UNSATISFIABLE: i32 = 20;
+
+/// How the linked library names itself.
+pub fn signature() -> String {
+    unsafe { CStr::from_ptr(cadical_signature()) }
+        .to_string_lossy()
+        .into_owned()
 }
 
 /// The DIMACS number of a literal.
@@ -44,8 +59,12 @@ pub fn values(clauses: &[i32], decisions: &[u32], variables: usize) -> Option<Ve
     question(clauses, decisions, &mut fixed).then_some(fixed)
 }
 
+fn numbers(decisions: &[u32]) -> Vec<i32> {
+    decisions.iter().map(|&literal| dimacs(literal)).collect()
+}
+
 fn question(clauses: &[i32], decisions: &[u32], fixed: &mut [i32]) -> bool {
-    let units: Vec<i32> = decisions.iter().map(|&literal| dimacs(literal)).collect();
+    let units = numbers(decisions);
     let answer = unsafe {
         cadical_ask(
             clauses.as_ptr(),
@@ -56,5 +75,26 @@ fn question(clauses: &[i32], decisions: &[u32], fixed: &mut [i32]) -> bool {
             fixed.len(),
         )
     };
-    answer != 20
+    answer != UNSATISFIABLE
+}
+
+/// A solver that is kept over a session.
+pub struct Kept(*mut c_void);
+
+impl Kept {
+    pub fn new(clauses: &[i32]) -> Kept {
+        Kept(unsafe { cadical_keep(clauses.as_ptr(), clauses.len()) })
+    }
+
+    /// Whether the decisions propagate without conflict, as far as this solver has learnt.
+    pub fn ask(&mut self, decisions: &[u32]) -> bool {
+        let assumptions = numbers(decisions);
+        unsafe { cadical_ask_kept(self.0, assumptions.as_ptr(), assumptions.len()) != UNSATISFIABLE }
+    }
+}
+
+impl Drop for Kept {
+    fn drop(&mut self) {
+        unsafe { cadical_drop(self.0) }
+    }
 }

@@ -7,19 +7,24 @@ use crate::engine::Engine;
 use crate::places::places;
 use crate::plan::{PLAIN, PROVED};
 use crate::random::Random;
-use crate::script::{session_length, Workload};
+use crate::script::{session_length, Call, Workload};
+use crate::steps;
 use std::rc::Rc;
 
 /// Lent numbers behind the required length, which no call may change.
 const MARGIN: usize = 3;
 
-/// How many calls were compared, by what they answered, and how many states CaDiCaL confirmed.
+/// How many calls were compared, by what they answered, how many steps left the numbers of the call, how many states CaDiCaL
+/// confirmed afresh, and how many it answered alike when kept, or by what it had learnt.
 #[derive(Default)]
 pub struct Compared {
     pub accepted: usize,
     pub conflicts: usize,
     pub refused: [usize; 18],
+    pub steps: usize,
     pub confirmed: usize,
+    pub alike: usize,
+    pub learnt: usize,
 }
 
 impl Compared {
@@ -50,6 +55,14 @@ impl Compared {
         self.both(&mut numbers, |engine, session| engine.lookup(book, session, variable));
         let mut copied = vec![u32::MAX; 12];
         self.both(&mut copied, |engine, out| engine.trail_from(book, session, before, out));
+        let room = random.below(8);
+        self.both(&mut vec![u32::MAX; room], |engine, out| {
+            engine.figures(book, session, out)
+        });
+        let room = if random.once_in(3) { 4 } else { 1503 };
+        self.both(&mut vec![u32::MAX; room], |engine, out| {
+            engine.checks(book, session, out)
+        });
         let mut halves = vec![7, 7];
         self.both(&mut halves, |engine, halves| {
             let mut sum = 7;
@@ -118,12 +131,34 @@ impl Compared {
         self.both(&mut session, |engine, session| engine.open(book, session));
         self.state(random, book, &session);
         for (i, &call) in workload.script.iter().enumerate() {
+            let mut stepped = session.clone();
             self.both(&mut session, |engine, session| call.make(engine, book, session));
+            // The script's calls are accepted in a session that passes.
+            unsafe { steps::take(call, book, &mut stepped) };
+            assert!(session == stepped, "the step without examination differs");
+            self.steps += 1;
             if i % every == 0 {
                 self.state(random, book, &session);
                 self.confirm(book, &session);
             }
         }
+    }
+
+    /// Every question of a workload to one solver that is kept: it finds each conflict, and finds another only by what it has learnt.
+    fn kept(&mut self, workload: &Workload) {
+        let mut kept = cadical::Kept::new(&cadical::clauses_of(&workload.book));
+        let mut states = workload.decisions_in_force().into_iter();
+        workload.run(PROVED, |call, session| {
+            let answer = call.make(PROVED, &workload.book, session);
+            let Call::Decide(_) = call else { return };
+            let decisions = states.next().expect("a state for each decision");
+            let in_conflict = matches!(answer, Answer::Conflict(_));
+            match (kept.ask(&decisions), in_conflict) {
+                (true, true) => panic!("CaDiCaL, kept, misses a conflict"),
+                (false, false) => self.learnt += 1,
+                _ => self.alike += 1,
+            }
+        });
     }
 
     /// Damaged copies of a text.
@@ -142,6 +177,7 @@ pub fn compare(workloads: &[Rc<Workload>], texts: &[Rc<Vec<u8>>]) -> Compared {
     let mut random = Random::new(99);
     for workload in workloads {
         compared.workload(&mut random, workload, 5);
+        compared.kept(workload);
     }
     let edges = damage::edges();
     for text in texts

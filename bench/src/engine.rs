@@ -9,5 +9,7 @@ pub trait Engine {
     fn backtrack(&self, book: &[u32], session: &mut [u32], k: u32) -> Answer;
     fn lookup(&self, book: &[u32], session: &[u32], variable: u32) -> Answer;
     fn trail_from(&self, book: &[u32], session: &[u32], before: u32, out: &mut [u32]) -> Answer;
+    fn figures(&self, book: &[u32], session: &[u32], out: &mut [u32]) -> Answer;
+    fn checks(&self, book: &[u32], session: &[u32], out: &mut [u32]) -> Answer;
     fn total(&self, book: &[u32], session: &[u32], sum: &mut u64) -> Answer;
 }

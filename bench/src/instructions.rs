@@ -18,11 +18,15 @@ pub fn collect(plan: &mut Plan) {
     }
 }
 
-/// The instructions that a dump of callgrind counts in all.
+/// The instructions that a dump of callgrind counts in all; fails where there is no dump, or no instruction in it.
 fn total(dump: &Path) -> f64 {
     let text = fs::read_to_string(dump).unwrap_or_else(|error| panic!("{}: {error}", dump.display()));
     let line = text.lines().find_map(|line| line.strip_prefix("totals: "));
-    line.and_then(|number| number.trim().parse().ok()).unwrap_or(0.0)
+    let number: Option<f64> = line.and_then(|number| number.trim().parse().ok());
+    match number {
+        Some(number) if number > 0.0 => number,
+        _ => panic!("{}: callgrind counted nothing", dump.display()),
+    }
 }
 
 /// A probe that counts calls.

@@ -5,6 +5,7 @@ mod cadical;
 mod damage;
 mod differential;
 mod engine;
+mod goals;
 mod instructions;
 mod measure;
 mod places;
@@ -17,13 +18,16 @@ mod random;
 mod report;
 mod script;
 mod stages;
+mod steps;
 mod text;
+mod versions;
 
+use goals::Goals;
 use plan::Plan;
 use std::fs;
 use std::path::Path;
 
-/// `bench FOLDER DOCS`: callgrind writes to FOLDER, the report goes to DOCS.
+/// `bench FOLDER DOCS`: callgrind writes to FOLDER, the report goes to DOCS. Fails where a goal fails the run.
 fn main() {
     let arguments: Vec<String> = std::env::args().collect();
     let mut plan = Plan::new();
@@ -39,9 +43,15 @@ fn main() {
     let compared = differential::compare(&workloads, &texts);
     plan.groups().for_each(measure::measure);
     instructions::count(&mut plan, Path::new(folder));
-    let report = report::report(&plan, &compared);
+    let goals = Goals::new(&plan);
+    let report = report::report(&plan, &goals, &compared);
     print!("{report}");
     let docs = Path::new(docs);
     fs::write(docs.join("SPEED.md"), report).expect("docs/SPEED.md is written");
     fs::write(docs.join("speed.svg"), plot::plot(&plan.growth)).expect("docs/speed.svg is written");
+    let failed = goals.failed();
+    for goal in &failed {
+        eprintln!("bench: {}: {}", goal.name, goal.sentence());
+    }
+    std::process::exit(i32::from(!failed.is_empty()));
 }

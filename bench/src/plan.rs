@@ -6,14 +6,20 @@ use crate::plain::Plain;
 use crate::probe::Probe;
 use crate::proved::Proved;
 use crate::random::Random;
-use crate::script::{Call, Workload};
+use crate::script::{session_length, Call, Workload};
 use crate::stages;
+use crate::steps;
 use crate::text::grouped;
 use std::hint::black_box;
 use std::rc::Rc;
 
 pub const PROVED: &dyn Engine = &Proved;
 pub const PLAIN: &dyn Engine = &Plain;
+
+/// The decisions of a script, of one for CaDiCaL, and of one for growth.
+pub const DECISIONS: usize = 200;
+pub const ASKED: usize = 30;
+pub const GROWTH: usize = 40;
 
 type Work = Box<dyn Fn(&mut dyn Probe)>;
 type Generate = fn(&mut Random, Size) -> Vec<u32>;
@@ -43,7 +49,7 @@ pub struct Series {
 pub struct Plan {
     /// Each: decide proved, decide plain, lookup proved, lookup plain.
     pub calls: Vec<Group>,
-    /// Each: decide proved, the same question to CaDiCaL, lookup proved.
+    /// Each: decide proved, its step without examination, the same question to CaDiCaL afresh, and to CaDiCaL kept.
     pub cadical: Vec<Group>,
     /// Each: read proved, read plain.
     pub reading: Vec<Group>,
@@ -105,6 +111,37 @@ fn ask(workload: &Rc<Workload>) -> Task {
     })
 }
 
+/// The same questions to one solver that is kept; that it takes the clauses is not measured, as an opening is not.
+fn ask_kept(workload: &Rc<Workload>) -> Task {
+    let clauses = cadical::clauses_of(&workload.book);
+    let states = workload.decisions_in_force();
+    task(move |probe| {
+        let mut kept = cadical::Kept::new(&clauses);
+        for decisions in &states {
+            probe.call(&mut || {
+                black_box(kept.ask(decisions));
+            });
+        }
+    })
+}
+
+/// The decisions of a script, each taken as a step without examination.
+fn step(workload: &Rc<Workload>) -> Task {
+    let workload = workload.clone();
+    task(move |probe| {
+        let mut session = vec![0; session_length(&workload.book)];
+        PROVED.open(&workload.book, &mut session);
+        for &call in &workload.script {
+            // The script's calls are accepted in a session that passes.
+            let mut taken = || unsafe { steps::take(call, &workload.book, black_box(&mut session)) };
+            match call {
+                Call::Decide(_) => probe.call(&mut taken),
+                Call::Backtrack(_) => taken(),
+            }
+        }
+    })
+}
+
 fn read(engine: &'static dyn Engine, text: &Rc<Vec<u8>>) -> Task {
     let text = text.clone();
     task(move |probe| {
@@ -154,7 +191,7 @@ pub fn workloads() -> Vec<Rc<Workload>> {
                 &format!("{name}, {kind}"),
                 &mut random,
                 book,
-                200,
+                DECISIONS,
             )));
         }
     }
@@ -191,7 +228,7 @@ fn series(title: &'static str, axis: &'static str, points: &[(usize, usize, usiz
     let point = |&(x, clauses, length): &(usize, usize, usize)| {
         let mut random = Random::new(7 + x as u64);
         let book = books::uniform(&mut random, 500, clauses, length);
-        let workload = Rc::new(Workload::new(axis, &mut random, book, 40));
+        let workload = Rc::new(Workload::new(axis, &mut random, book, GROWTH));
         let tasks = vec![
             decide(PROVED, &workload),
             decide(PLAIN, &workload),
@@ -231,10 +268,10 @@ impl Plan {
             tasks: vec![decide(PROVED, w), decide(PLAIN, w), lookup(PROVED, w), lookup(PLAIN, w)],
         });
         let cadical = workloads.iter().map(|w| {
-            let short = Rc::new(w.prefix(30));
+            let short = Rc::new(w.prefix(ASKED));
             Group {
                 name: w.name.clone(),
-                tasks: vec![decide(PROVED, &short), ask(&short), lookup(PROVED, &short)],
+                tasks: vec![decide(PROVED, &short), step(&short), ask(&short), ask_kept(&short)],
             }
         });
         let reading = texts(&workloads).into_iter().map(|(name, text)| Group {

@@ -18,6 +18,8 @@ extern "C" {
         out: *mut u32,
         k: usize,
     ) -> u64;
+    fn tariff_figures(book: *const u32, n: usize, session: *const u32, m: usize, out: *mut u32, k: usize) -> u64;
+    fn tariff_checks(book: *const u32, n: usize, session: *const u32, m: usize, out: *mut u32, k: usize) -> u64;
     fn tariff_total(book: *const u32, n: usize, session: *const u32, m: usize, sum: *mut u64) -> u64;
 }
 
@@ -63,6 +65,32 @@ impl Engine for Proved {
                 session.as_ptr(),
                 session.len(),
                 before,
+                out.as_mut_ptr(),
+                out.len(),
+            )
+        })
+    }
+
+    fn figures(&self, book: &[u32], session: &[u32], out: &mut [u32]) -> Answer {
+        Answer::from_code(unsafe {
+            tariff_figures(
+                book.as_ptr(),
+                book.len(),
+                session.as_ptr(),
+                session.len(),
+                out.as_mut_ptr(),
+                out.len(),
+            )
+        })
+    }
+
+    fn checks(&self, book: &[u32], session: &[u32], out: &mut [u32]) -> Answer {
+        Answer::from_code(unsafe {
+            tariff_checks(
+                book.as_ptr(),
+                book.len(),
+                session.as_ptr(),
+                session.len(),
                 out.as_mut_ptr(),
                 out.len(),
             )

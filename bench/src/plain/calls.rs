@@ -85,13 +85,28 @@ pub fn lookup(book: &[u32], session: &[u32], variable: u32) -> Outcome {
     }))
 }
 
+/// Copies what fits, and answers how many there are.
+fn copied(numbers: &[u32], out: &mut [u32]) -> Answer {
+    let fitting = numbers.len().min(out.len());
+    out[..fitting].copy_from_slice(&numbers[..fitting]);
+    Answer::Accepted(numbers.len() as u32)
+}
+
 pub fn trail_from(book: &[u32], session: &[u32], before: u32, out: &mut [u32]) -> Outcome {
     let (_, parts) = validated(book, session)?;
     let trail = &parts.trail[..parts.header[0] as usize];
-    let behind = trail.get(before as usize..).unwrap_or(&[]);
-    let fitting = behind.len().min(out.len());
-    out[..fitting].copy_from_slice(&behind[..fitting]);
-    Ok(Answer::Accepted(behind.len() as u32))
+    Ok(copied(trail.get(before as usize..).unwrap_or(&[]), out))
+}
+
+/// Decisions in force, accepted backtracks, trail length, conflict clause.
+pub fn figures(book: &[u32], session: &[u32], out: &mut [u32]) -> Outcome {
+    let (_, parts) = validated(book, session)?;
+    Ok(copied(&[1, 3, 0, 2].map(|place| parts.header[place]), out))
+}
+
+pub fn checks(book: &[u32], session: &[u32], out: &mut [u32]) -> Outcome {
+    let (_, parts) = validated(book, session)?;
+    Ok(copied(parts.checks, out))
 }
 
 pub fn total(book: &[u32], session: &[u32], sum: &mut u64) -> Outcome {

@@ -45,6 +45,14 @@ impl Engine for Plain {
         answer(calls::trail_from(book, session, before, out))
     }
 
+    fn figures(&self, book: &[u32], session: &[u32], out: &mut [u32]) -> Answer {
+        answer(calls::figures(book, session, out))
+    }
+
+    fn checks(&self, book: &[u32], session: &[u32], out: &mut [u32]) -> Answer {
+        answer(calls::checks(book, session, out))
+    }
+
     fn total(&self, book: &[u32], session: &[u32], sum: &mut u64) -> Answer {
         answer(calls::total(book, session, sum))
     }
