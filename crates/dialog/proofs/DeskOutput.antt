@@ -31,7 +31,7 @@ use Rattle.script.specs.Desk.{propagatedLine, answerTo, stepOf, answersTo, outp
 use Rattle.script.proofs.LineLengths.{length-refused}
 use Rattle.dialog.specs.Starting.{StartLeft, startLeft, startedBy, openBytes, opening, startingBy, starting}
 use Rattle.dialog.specs.Taking.{TakeLeft, lineBytes, keeping, ending, taking}
-use Rattle.dialog.specs.Program.{Lends, Holds, PartTaken, used-up, lent, ScriptPrints, reads, finishes, StartPrints, refuses, opens, ProgramPrints, holding, takes, handed, holdsThen, handedLast}
+use Rattle.dialog.specs.Program.{Lends, Holds, PartTaken, used-up, goes-on, ScriptPrints, reads, finishes, StartPrints, refuses, opens, ProgramPrints, holding, takes, handed, holdsThen, handedLast}
 use Rattle.dialog.specs.declared.Started.{Started}
 use Rattle.dialog.specs.declared.Started.the-variants as started
 use Rattle.dialog.proofs.OutcomeLaws.{opening-holds, run-opening}
@@ -70,7 +70,7 @@ part-joined : (book : List ℕ) {holds after : Holds} {part first : List ℕ} �
     → first ++ printed ≡ answersTo (formulaOf book) run (joined begun (scriptLines (part ++ rest)))
 unfolding answersTo
 part-joined book used-up rest printed next run begun buffer f = next run begun buffer f
-part-joined book (lent {holds = holds} {bytes = part} {printed = handed-on} some taken) rest printed next run begun buffer f =
+part-joined book (goes-on {holds = holds} {bytes = part} {printed = handed-on} some taken) rest printed next run begun buffer f =
     append-assoc (handed (takes book holds part)) handed-on printed
     ∙ go (ltb (length (lineBytes part)) (length part)) refl
     (λ run′ begun′ buffer′ f′. part-joined book taken rest printed next run′ begun′ buffer′ f′)
@@ -224,7 +224,7 @@ part-taken book (suc n) holds part h = more part h (λ holds′ part′ h′. pa
         let left : TakeLeft = takes book holds (byte ∷ bytes) in
         let used = use-some book (holds .session) (holds .line) (holds .kept) (byte ∷ bytes) (holds .out) (omega arith) in
         let r = ih (holdsThen left) (drop (left .answer .used) (byte ∷ bytes)) (rw (length-drop (left .answer .used) (byte ∷ bytes)) (omega arith)) in
-        (r .0, handed left ++ r .1, lent {bytes = byte ∷ bytes} (omega arith) (r .2))
+        (r .0, handed left ++ r .1, goes-on {bytes = byte ∷ bytes} (omega arith) (r .2))
 
 parts-print : (book : List ℕ) (parts : List (List ℕ)) (holds : Holds) → (printed : List ℕ) × ScriptPrints book holds parts printed
 parts-print book [] holds = (handedLast book holds, finishes)

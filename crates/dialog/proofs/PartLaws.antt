@@ -6,7 +6,7 @@ use native.Mathlib.Omega.{arith}
 use lib.ListN.{length, take, drop, length-drop, drop-of-length-le}
 use lib.Seq.{take-all, drop-drop}
 use Rattle.dialog.specs.Taking.{TakeLeft, takeLeft, taking}
-use Rattle.dialog.specs.Program.{Holds, holding, takes, handed, holdsThen, PartTaken, used-up, lent}
+use Rattle.dialog.specs.Program.{Holds, holding, takes, handed, holdsThen, PartTaken, used-up, goes-on}
 use Rattle.dialog.specs.declared.Taken.{Taken}
 
 -- what the calls on the rest of a part lead to, the calls on the whole part lead to
@@ -22,7 +22,7 @@ pub one-more : (book : List ℕ) (start : Holds) (part session line : List ℕ) 
     → GoesOn book start part (holding session′ line′ (told .kept) out′) (drop (at + told .used) part)
 one-more book start part session line held out at less told session′ line′ out′ e on after printed taken =
     on after (handed left ++ printed)
-    (lent (rw (length-drop at part) (omega arith))
+    (goes-on (rw (length-drop at part) (omega arith))
     (subst (λ (o : TakeLeft). PartTaken book (holdsThen o) (drop (o .answer .used) (drop at part)) after printed) same
     (subst (λ (rest : List ℕ). PartTaken book (holding session′ line′ (told .kept) out′) rest after printed) (sym (drop-drop (told .used) at part)) taken)))
   where

@@ -66,7 +66,7 @@ handedLast book holds =
 -- bytes that the calls hand out.
 pub data PartTaken (book : List ℕ) : Holds → List ℕ → Holds → List ℕ → Type 0 where
   used-up : {holds : Holds} → PartTaken book holds [] holds []
-  lent : {holds after : Holds} {bytes printed : List ℕ} → 0 < length bytes
+  goes-on : {holds after : Holds} {bytes printed : List ℕ} → 0 < length bytes
       → PartTaken book (holdsThen (takes book holds bytes)) (drop (takes book holds bytes .answer .used) bytes) after printed
       → PartTaken book holds bytes after (handed (takes book holds bytes) ++ printed)
 
