@@ -14,6 +14,7 @@ use layout::offsets::TRAIL;
 use layout::offsets::levels_at;
 use layout::offsets::value_slot;
 use layout::values::level_before;
+use layout::values::parity;
 use layout::values::wide;
 
 // Puts a literal on the trail, at a level.
@@ -25,7 +26,7 @@ pub(crate) fn assign(session: &mut [u32], variables: usize, literal: u32, level:
     let at = wide(count);
     session[TRAIL + at] = literal;
     session[levels_at(variables) + at] = level;
-    session[value_slot(variables, literal)] = 2 * (count + 1) + literal % 2;
+    session[value_slot(variables, literal)] = 2 * (count + 1) + parity(literal);
     session[LENGTH] = count + 1;
 }
 

@@ -28,6 +28,7 @@ use layout::offsets::watches_at;
 use layout::values::Value;
 use layout::values::clause_start;
 use layout::values::literal_value;
+use layout::values::parity;
 use layout::values::wide;
 
 // What a visit leaves: the walk behind the clause, or a conflict.
@@ -41,7 +42,7 @@ fn other_node(node: u32) -> u32
     requires { ⌜ (1 ≤ node) × (node ≤ 2 * maxClauses) ⌝ }
     ensures { λ r. ⌜ r ≡ otherNode node ⌝ }
 {
-    if node % 2 == 1 {
+    if parity(node) == 1 {
         return node + 1;
     }
     node - 1

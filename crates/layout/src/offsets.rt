@@ -73,7 +73,7 @@ pub fn value_slot(variables: usize, literal: u32) -> usize
     requires { ⌜ (variables ≤ maxVariables) × (2 ≤ literal) ⌝ }
     ensures { λ r. ⌜ r ≡ valueSlot variables literal ⌝ }
 {
-    values_at(variables) + (wide(literal / 2) - 1)
+    values_at(variables) + (wide(literal >> 1) - 1)
 }
 
 // The place of a node's watch.
@@ -89,7 +89,7 @@ pub fn clause_of_node(node: u32) -> usize
     requires { ⌜ 1 ≤ node ⌝ }
     ensures { λ r. ⌜ r ≡ clauseOfNode node ⌝ }
 {
-    (wide(node) - 1) / 2
+    (wide(node) - 1) >> 1
 }
 
 // The place of the head of a literal's list.

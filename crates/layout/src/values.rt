@@ -1,6 +1,6 @@
 // What session and book numbers say: the value of a literal, the level at a trail place, where a clause stands.
 ghost use mathlib.Core.Path.{_≡_};
-ghost use Prim.Native.Nat.{_+_, _*_, _-_, _≤_};
+ghost use Prim.Native.Nat.{_+_, _*_, _-_, _%_, _≤_};
 ghost use lib.ListN.{length, getD};
 ghost use Rattle.book.specs.Formula.{maxVariables, variableOf};
 ghost use Rattle.layout.specs.Layout.{TrailFits, valueSlot, levelBefore};
@@ -24,12 +24,19 @@ pub fn wide(x: u32) -> usize
     x as usize
 }
 
+// What is left of a number when it is halved, by a shift and a subtraction: 1 of a negative literal, of its entry and of the first node of a clause.
+pub fn parity(x: u32) -> u32
+    ensures { λ r. ⌜ r ≡ x % 2 ⌝ }
+{
+    x - 2 * (x >> 1)
+}
+
 // The literal of the same variable with the other sign.
 pub fn opposite(literal: u32) -> u32
     requires { ⌜ literal ≤ 2 * maxVariables + 1 ⌝ }
     ensures { λ r. ⌜ r ≡ trails.opposite literal ⌝ }
 {
-    if literal % 2 == 0 {
+    if parity(literal) == 0 {
         return literal + 1;
     }
     literal - 1
@@ -42,7 +49,7 @@ fn value_by(entry: u32, literal: u32) -> Value
     if entry == 0 {
         return Value::Open;
     }
-    if entry % 2 == literal % 2 {
+    if parity(entry) == parity(literal) {
         return Value::True;
     }
     Value::False
@@ -53,7 +60,7 @@ pub fn value_of(values: &[u32], literal: u32) -> Value
     requires { ⌜ (2 ≤ literal) × (variableOf literal ≤ length (now values)) ⌝ }
     ensures { λ r. ⌜ r ≡ valueRead (getD (now (values .entry)) (variableOf literal - 1) 0) literal ⌝ }
 {
-    value_by(values[wide(literal / 2) - 1], literal)
+    value_by(values[wide(literal >> 1) - 1], literal)
 }
 
 // The value of a literal, from the numbers of a session.

@@ -38,8 +38,11 @@ add-session-3 c = search needs
 mul-session-3 : tie.Need-mul-session-3
 mul-session-3 c = search needs
 
+parity-requires : tie.Need-parity-requires
+parity-requires c κs = search needs
+
 add-session-4 : tie.Need-add-session-4
-add-session-4 c = search needs
+add-session-4 c = omega (arith, c .parity .ensures)
 
 value-slot-requires : tie.Need-value-slot-requires
 value-slot-requires c κs = search needs
@@ -60,7 +63,7 @@ same-length : tie.Need-same-length
 same-length c = search needs
 
 returns : tie.Need-returns
-returns c = rw (c .before .before .wide .ensures, c .before .levels-at .ensures, c .value-slot .ensures)
+returns c = rw (c .before .before .before .wide .ensures, c .before .before .levels-at .ensures, c .before .parity .ensures, c .value-slot .ensures)
 
 pub assign-spec : {M : Type 1} → statement M
 assign-spec =
@@ -77,6 +80,7 @@ assign-spec =
     slice-write-session-2
     add-session-3
     mul-session-3
+    parity-requires
     add-session-4
     value-slot-requires
     mul-session-4
