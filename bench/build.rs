@@ -1,6 +1,6 @@
-//! Links the static library of the proved engine, and CaDiCaL behind a shim compiled by g++.
+//! Links the static libraries of the proved engine, this tree's or those of the folder STATICLIB, and CaDiCaL behind a shim compiled by g++.
 use std::env;
-use std::path::Path;
+use std::path::{Path, PathBuf};
 use std::process::Command;
 
 fn run(command: &mut Command) {
@@ -16,7 +16,8 @@ fn said(command: &mut Command) -> String {
 fn main() {
     let out = env::var("OUT_DIR").expect("cargo sets OUT_DIR");
     let root = env::var("CARGO_MANIFEST_DIR").expect("cargo sets CARGO_MANIFEST_DIR");
-    let staticlib = Path::new(&root).join("../target/staticlib");
+    let here = Path::new(&root).join("../target/staticlib");
+    let staticlib = env::var_os("STATICLIB").map_or(here, PathBuf::from);
     let object = format!("{out}/cadical.o");
     let archive = format!("{out}/libshim.a");
     run(Command::new("g++").args(["-O2", "-c", "shim/cadical.cpp", "-o", &object]));
@@ -28,6 +29,7 @@ fn main() {
     println!("cargo:rustc-link-lib=static=steps");
     println!("cargo:rustc-link-lib=cadical");
     println!("cargo:rustc-link-lib=stdc++");
+    println!("cargo:rerun-if-env-changed=STATICLIB");
     println!("cargo:rerun-if-changed=shim/cadical.cpp");
     println!("cargo:rerun-if-changed={}", staticlib.join("libcapi.a").display());
     println!("cargo:rerun-if-changed={}", staticlib.join("libsteps.a").display());

@@ -76,6 +76,15 @@ pub fn uniform(random: &mut Random, variables: usize, clauses: usize, length: us
     numbers_of(variables, &clauses)
 }
 
+/// As many clauses of one length as there can be: each has the first variable, one of its own, and then those that all of them share.
+pub fn scanned(length: usize) -> Vec<u32> {
+    let shared = length - 2;
+    let count = (LIMITS.literals / length).min(LIMITS.variables - 1 - shared) as u32;
+    let clause = |c: u32| [1, 2 + c].into_iter().chain((0..shared as u32).map(|i| 2 + count + i));
+    let clauses: Vec<Vec<u32>> = (0..count).map(|c| clause(c).map(|v| 2 * v).collect()).collect();
+    numbers_of(1 + count as usize + shared, &clauses)
+}
+
 /// A few clauses over few variables, clauses of one literal among them.
 pub fn small(random: &mut Random) -> Vec<u32> {
     let variables = 1 + random.below(9);

@@ -5,8 +5,8 @@ use std::fs;
 use std::path::Path;
 use std::process::{Command, Stdio};
 
-/// The argument that makes this program run the plan's tasks for callgrind.
-pub const ARGUMENT: &str = "collect";
+/// The argument that makes this program run the tasks of a plan for callgrind; the plan's name follows.
+pub const COLLECT: &str = "collect";
 
 /// Runs each task once, with a dump behind it.
 pub fn collect(plan: &mut Plan) {
@@ -39,9 +39,19 @@ impl Probe for Counter {
     }
 }
 
+/// Removes the dumps of an earlier run.
+fn remove_dumps(folder: &Path) {
+    for entry in fs::read_dir(folder).expect("the folder is read").flatten() {
+        if entry.file_name().to_string_lossy().starts_with("callgrind.out") {
+            fs::remove_file(entry.path()).expect("a dump is removed");
+        }
+    }
+}
+
 /// Fills in the instructions per call of every task.
 pub fn count(plan: &mut Plan, folder: &Path) {
     let out = folder.join("callgrind.out");
+    remove_dumps(folder);
     let status = Command::new("valgrind")
         .args([
             "--tool=callgrind",
@@ -50,7 +60,7 @@ pub fn count(plan: &mut Plan, folder: &Path) {
         ])
         .arg(format!("--callgrind-out-file={}", out.display()))
         .arg(std::env::current_exe().expect("the path of this program"))
-        .arg(ARGUMENT)
+        .args([COLLECT, plan.name])
         .stderr(Stdio::null())
         .status()
         .expect("valgrind starts");

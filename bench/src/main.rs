@@ -1,5 +1,6 @@
-//! Measures the proved engine against plain Rust and CaDiCaL, and writes docs/SPEED.md and docs/speed.svg.
+//! Measures the proved engine against plain Rust, CaDiCaL and an earlier commit, and writes docs/SPEED.md and docs/speed.svg.
 mod answer;
+mod before;
 mod books;
 mod cadical;
 mod damage;
@@ -16,6 +17,7 @@ mod probe;
 mod proved;
 mod random;
 mod report;
+mod scans;
 mod script;
 mod stages;
 mod steps;
@@ -23,35 +25,44 @@ mod text;
 mod versions;
 
 use goals::Goals;
-use plan::Plan;
+use plan::{Plan, SCANS, WHOLE};
 use std::fs;
 use std::path::Path;
 
-/// `bench FOLDER DOCS`: callgrind writes to FOLDER, the report goes to DOCS. Fails where a goal fails the run.
-fn main() {
-    let arguments: Vec<String> = std::env::args().collect();
-    let mut plan = Plan::new();
-    if arguments.get(1).map(String::as_str) == Some(instructions::ARGUMENT) {
-        instructions::collect(&mut plan);
-        return;
-    }
-    let [_, folder, docs] = &arguments[..] else {
-        panic!("usage: bench FOLDER DOCS");
-    };
+/// Measures the whole plan, writes the report, and answers whether no goal fails the run; where one does, the program fails.
+fn run(folder: &Path, docs: &Path) -> bool {
+    let mut plan = Plan::of(WHOLE);
     let workloads = plan::workloads();
     let texts: Vec<_> = plan::texts(&workloads).into_iter().map(|(_, text)| text).collect();
-    let compared = differential::compare(&workloads, &texts);
+    let compared = differential::compare(&[workloads, scans::workloads()].concat(), &texts);
     plan.groups().for_each(measure::measure);
-    instructions::count(&mut plan, Path::new(folder));
+    instructions::count(&mut plan, folder);
     let goals = Goals::new(&plan);
     let report = report::report(&plan, &goals, &compared);
     print!("{report}");
-    let docs = Path::new(docs);
-    fs::write(docs.join("SPEED.md"), report).expect("docs/SPEED.md is written");
+    let file = docs.join(report::FILE);
+    let earlier = fs::read_to_string(&file).unwrap_or_default();
+    fs::write(file, report + before::kept(&earlier)).expect("the report is written");
     fs::write(docs.join("speed.svg"), plot::plot(&plan.growth)).expect("docs/speed.svg is written");
     let failed = goals.failed();
     for goal in &failed {
         eprintln!("bench: {}: {}", goal.name, goal.sentence());
     }
-    std::process::exit(i32::from(!failed.is_empty()));
+    failed.is_empty()
+}
+
+/// `run` and `before` are what bench/run and bench/before call; the others are what these two run. Callgrind writes to FOLDER, the report
+/// goes to DOCS.
+fn main() {
+    let arguments: Vec<String> = std::env::args().skip(1).collect();
+    let words: Vec<&str> = arguments.iter().map(String::as_str).collect();
+    match words[..] {
+        ["run", folder, docs] => std::process::exit(i32::from(!run(Path::new(folder), Path::new(docs)))),
+        ["before", folder, tree, commit, request, docs] => {
+            before::write(Path::new(folder), Path::new(tree), commit, request, Path::new(docs))
+        }
+        [SCANS, folder] => before::print_figures(Path::new(folder)),
+        [instructions::COLLECT, name] => instructions::collect(&mut Plan::of(name)),
+        _ => panic!("usage: bench run FOLDER DOCS, or bench before FOLDER TREE COMMIT REQUEST DOCS"),
+    }
 }

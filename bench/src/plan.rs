@@ -6,6 +6,7 @@ use crate::plain::Plain;
 use crate::probe::Probe;
 use crate::proved::Proved;
 use crate::random::Random;
+use crate::scans;
 use crate::script::{session_length, Call, Workload};
 use crate::stages;
 use crate::steps;
@@ -15,6 +16,10 @@ use std::rc::Rc;
 
 pub const PROVED: &dyn Engine = &Proved;
 pub const PLAIN: &dyn Engine = &Plain;
+
+/// The names of the plans: everything, and the proved scans of long clauses alone.
+pub const WHOLE: &str = "whole";
+pub const SCANS: &str = "scans";
 
 /// The decisions of a script, of one for CaDiCaL, and of one for growth.
 pub const DECISIONS: usize = 200;
@@ -29,6 +34,12 @@ pub struct Task {
     pub work: Work,
     pub nanoseconds: f64,
     pub instructions: f64,
+}
+
+impl Task {
+    pub fn figures(&self) -> [f64; 2] {
+        [self.nanoseconds, self.instructions]
+    }
 }
 
 /// Tasks that alternate.
@@ -46,7 +57,9 @@ pub struct Series {
     pub points: Vec<(usize, Group)>,
 }
 
+#[derive(Default)]
 pub struct Plan {
+    pub name: &'static str,
     /// Each: decide proved, decide plain, lookup proved, lookup plain.
     pub calls: Vec<Group>,
     /// Each: decide proved, its step without examination, the same question to CaDiCaL afresh, and to CaDiCaL kept.
@@ -57,9 +70,11 @@ pub struct Plan {
     pub stages: Vec<Group>,
     /// Each point: decide proved, decide plain, lookup proved.
     pub growth: Vec<Series>,
+    /// Each: a decision that scans in full, its step without examination; in the whole plan its scans in plain Rust, too, wrapped and running.
+    pub scans: Vec<Group>,
 }
 
-fn task(work: impl Fn(&mut dyn Probe) + 'static) -> Task {
+pub fn task(work: impl Fn(&mut dyn Probe) + 'static) -> Task {
     Task {
         work: Box::new(work),
         nanoseconds: 0.0,
@@ -67,17 +82,18 @@ fn task(work: impl Fn(&mut dyn Probe) + 'static) -> Task {
     }
 }
 
-/// The decisions of a script, measured.
-fn decide(engine: &'static dyn Engine, workload: &Rc<Workload>) -> Task {
+/// The calls of a script, of which the workload says the measured ones.
+pub fn decide(engine: &'static dyn Engine, workload: &Rc<Workload>) -> Task {
     let workload = workload.clone();
     task(move |probe| {
         workload.run(engine, |call, session| {
             let mut made = || {
                 black_box(call.make(engine, &workload.book, session));
             };
-            match call {
-                Call::Decide(_) => probe.call(&mut made),
-                Call::Backtrack(_) => made(),
+            if (workload.measured)(call) {
+                probe.call(&mut made);
+            } else {
+                made();
             }
         })
     })
@@ -125,8 +141,8 @@ fn ask_kept(workload: &Rc<Workload>) -> Task {
     })
 }
 
-/// The decisions of a script, each taken as a step without examination.
-fn step(workload: &Rc<Workload>) -> Task {
+/// The same calls, each taken as a step without examination.
+pub fn step(workload: &Rc<Workload>) -> Task {
     let workload = workload.clone();
     task(move |probe| {
         let mut session = vec![0; session_length(&workload.book)];
@@ -134,9 +150,10 @@ fn step(workload: &Rc<Workload>) -> Task {
         for &call in &workload.script {
             // The script's calls are accepted in a session that passes.
             let mut taken = || unsafe { steps::take(call, &workload.book, black_box(&mut session)) };
-            match call {
-                Call::Decide(_) => probe.call(&mut taken),
-                Call::Backtrack(_) => taken(),
+            if (workload.measured)(call) {
+                probe.call(&mut taken);
+            } else {
+                taken();
             }
         }
     })
@@ -261,7 +278,20 @@ fn growth() -> Vec<Series> {
 }
 
 impl Plan {
-    pub fn new() -> Plan {
+    /// The plan of a name.
+    pub fn of(name: &str) -> Plan {
+        match name {
+            WHOLE => Plan::whole(),
+            SCANS => Plan {
+                name: SCANS,
+                scans: scans::proved(),
+                ..Plan::default()
+            },
+            _ => panic!("no plan {name}"),
+        }
+    }
+
+    fn whole() -> Plan {
         let workloads = workloads();
         let calls = workloads.iter().map(|w| Group {
             name: w.name.clone(),
@@ -279,11 +309,13 @@ impl Plan {
             tasks: vec![read(PROVED, &text), read(PLAIN, &text)],
         });
         Plan {
+            name: WHOLE,
             calls: calls.collect(),
             cadical: cadical.collect(),
             reading: reading.collect(),
             stages: [&workloads[0], &workloads[2]].map(stage_group).into(),
             growth: growth(),
+            scans: scans::groups(),
         }
     }
 
@@ -296,5 +328,6 @@ impl Plan {
             .chain(self.reading.iter_mut())
             .chain(self.stages.iter_mut())
             .chain(points.map(|(_, group)| group))
+            .chain(self.scans.iter_mut())
     }
 }

@@ -4,38 +4,54 @@ use crate::differential::Compared;
 use crate::goals::{Goal, Goals, MARGIN};
 use crate::measure::{ROUNDS, TIME};
 use crate::plan::{Group, Plan, Series, Task, ASKED, DECISIONS, GROWTH};
+use crate::scans::TIMES;
 use crate::stages::STAGES;
 use crate::text::{grouped, microseconds, percent, ratio, table};
 use crate::versions;
 
+/// The contestants of most tables.
+const PROVED_PLAIN: [&str; 2] = ["proved", "plain"];
+
 /// Microseconds and instructions of `a` and of `b`, with their ratios.
-fn beside(name: &str, a: &Task, b: &Task) -> Vec<String> {
+fn beside(name: &str, a: [f64; 2], b: [f64; 2]) -> Vec<String> {
     vec![
         name.to_string(),
-        microseconds(a.nanoseconds),
-        microseconds(b.nanoseconds),
-        ratio(a.nanoseconds, b.nanoseconds),
-        grouped(a.instructions),
-        grouped(b.instructions),
-        ratio(a.instructions, b.instructions),
+        microseconds(a[0]),
+        microseconds(b[0]),
+        ratio(a[0], b[0]),
+        grouped(a[1]),
+        grouped(b[1]),
+        ratio(a[1], b[1]),
     ]
 }
 
-fn beside_table(first: &str, groups: &[Group]) -> String {
-    let rows: Vec<_> = groups
-        .iter()
-        .map(|group| beside(&group.name, &group.tasks[0], &group.tasks[1]))
-        .collect();
+/// A table of two contestants, by name: for each row what the first and what the second measures.
+pub fn beside_table<'a>(
+    first: &str,
+    [a, b]: [&str; 2],
+    rows: impl Iterator<Item = (&'a str, [f64; 2], [f64; 2])>,
+) -> String {
+    let [times, numbers] = ["µs", "instructions"].map(|unit| [format!("{a} {unit}"), format!("{b} {unit}")]);
+    let quotient = format!("{a} / {b}");
     let head = [
         first,
-        "proved µs",
-        "plain µs",
-        "ratio",
-        "proved instructions",
-        "plain instructions",
-        "ratio",
+        &times[0],
+        &times[1],
+        &quotient,
+        &numbers[0],
+        &numbers[1],
+        &quotient,
     ];
-    table(&head, &rows)
+    table(&head, &rows.map(|(name, a, b)| beside(name, a, b)).collect::<Vec<_>>())
+}
+
+/// A table of the tasks of groups, two of each.
+fn tasks_table(first: &str, names: [&str; 2], groups: &[Group], tasks: [usize; 2]) -> String {
+    let rows = groups.iter().map(|group| {
+        let [a, b] = tasks.map(|task| group.tasks[task].figures());
+        (&group.name[..], a, b)
+    });
+    beside_table(first, names, rows)
 }
 
 /// The goals, and what the worst book measures.
@@ -108,7 +124,7 @@ fn shares(groups: &[Group]) -> String {
         "plain, by instructions",
         "propagation proved, instructions",
         "propagation plain, instructions",
-        "ratio",
+        "proved / plain",
     ];
     table(&head, &groups.iter().map(row).collect::<Vec<_>>())
 }
@@ -145,7 +161,7 @@ fn stages(group: &Group) -> String {
         "plain µs",
         "proved instructions",
         "plain instructions",
-        "ratio",
+        "proved / plain",
         "of all",
     ];
     table(&head, &rows)
@@ -229,7 +245,7 @@ fn cadical(goals: &Goals, groups: &[Group]) -> String {
 
 fn growth(series: &Series) -> String {
     let row = |(_, group): &(usize, Group)| {
-        let mut cells = beside(&group.name, &group.tasks[0], &group.tasks[1]);
+        let mut cells = beside(&group.name, group.tasks[0].figures(), group.tasks[1].figures());
         cells.push(grouped(group.tasks[2].instructions));
         cells
     };
@@ -237,10 +253,10 @@ fn growth(series: &Series) -> String {
         "book",
         "proved µs",
         "plain µs",
-        "ratio",
+        "proved / plain",
         "proved instructions",
         "plain instructions",
-        "ratio",
+        "proved / plain",
         "of the proved ones validation",
     ];
     let rows: Vec<_> = series.points.iter().map(row).collect();
@@ -252,6 +268,19 @@ fn growth(series: &Series) -> String {
         ratio(last.0 as f64, first.0 as f64),
         ratio(last.1.tasks[0].instructions, first.1.tasks[0].instructions),
         table(&head, &rows)
+    )
+}
+
+/// The decision that scans every clause in full, and its scans in plain Rust.
+fn long_clauses(groups: &[Group]) -> String {
+    format!(
+        "The decision makes the first literal of every clause false, where all others but the second are false already: it scans every clause in full, finds nothing, and\n\
+         implies the second. It is made {TIMES} times, with a backtrack behind each. Its step, without examination, is the proved scan with the reading of the list, the counts\n\
+         and the implied literals; nothing calls the scan by itself.\n\n{}\n\
+         The same scans alone, in plain Rust, which checks its indices: with the next position by a remainder (wrapped), and by a comparison, as the proved scan has it\n\
+         (running). No goal was set.\n\n{}",
+        tasks_table("book", ["decision", "step"], groups, [0, 1]),
+        tasks_table("book", ["wrapped", "running"], groups, [2, 3]),
     )
 }
 
@@ -312,6 +341,9 @@ fn judgement(goals: &Goals) -> String {
     )
 }
 
+/// The name of the report's file.
+pub const FILE: &str = "SPEED.md";
+
 /// The whole report.
 pub fn report(plan: &Plan, goals: &Goals, compared: &Compared) -> String {
     let mut text = format!(
@@ -323,7 +355,11 @@ pub fn report(plan: &Plan, goals: &Goals, compared: &Compared) -> String {
     let mut section = |title: &str, body: String| text.push_str(&format!("## {title}\n\n{body}\n"));
     section(
         "a. A decision, with its validation",
-        format!("{}\n\n{}", goals.decision.sentence(), beside_table("book", &plan.calls)),
+        format!(
+            "{}\n\n{}",
+            goals.decision.sentence(),
+            tasks_table("book", PROVED_PLAIN, &plan.calls, [0, 1])
+        ),
     );
     let note =
         "Each stage is the difference between calls that are refused at its end and at the end of the stage before.";
@@ -349,7 +385,7 @@ pub fn report(plan: &Plan, goals: &Goals, compared: &Compared) -> String {
         format!(
             "{}\n\n{}",
             goals.reading.sentence(),
-            beside_table("text", &plan.reading)
+            tasks_table("text", PROVED_PLAIN, &plan.reading, [0, 1])
         ),
     );
     section(
@@ -360,6 +396,7 @@ pub fn report(plan: &Plan, goals: &Goals, compared: &Compared) -> String {
             plan.growth.iter().map(growth).collect::<Vec<_>>().join("\n")
         ),
     );
+    section("f. The scan of long clauses", long_clauses(&plan.scans));
     section("Equal results", equal(compared));
     text
 }

@@ -5,7 +5,7 @@ use crate::places::places;
 use crate::plain::Plain;
 use crate::random::Random;
 
-#[derive(Clone, Copy, Debug)]
+#[derive(Clone, Copy, Debug, PartialEq, Eq)]
 pub enum Call {
     Decide(u32),
     Backtrack(u32),
@@ -15,6 +15,8 @@ pub struct Workload {
     pub name: String,
     pub book: Vec<u32>,
     pub script: Vec<Call>,
+    /// Which calls are measured.
+    pub measured: fn(Call) -> bool,
 }
 
 /// The length of a session on well-formed book numbers.
@@ -43,6 +45,10 @@ fn next_call(random: &mut Random, book: &[u32], session: &[u32]) -> Option<Call>
 }
 
 impl Call {
+    pub fn is_decision(self) -> bool {
+        matches!(self, Call::Decide(_))
+    }
+
     pub fn make(self, engine: &dyn Engine, book: &[u32], session: &mut [u32]) -> Answer {
         match self {
             Call::Decide(literal) => engine.decide(book, session, literal),
@@ -64,13 +70,14 @@ impl Workload {
             };
             let answer = call.make(&Plain, &book, &mut session);
             assert!(!matches!(answer, Answer::Refused(_)), "{call:?}: {answer:?}");
-            made += usize::from(matches!(call, Call::Decide(_)));
+            made += usize::from(call.is_decision());
             script.push(call);
         }
         Workload {
             name: name.to_string(),
             book,
             script,
+            measured: Call::is_decision,
         }
     }
 
@@ -87,13 +94,14 @@ impl Workload {
     pub fn prefix(&self, decisions: usize) -> Workload {
         let mut made = 0;
         let script = self.script.iter().take_while(|call| {
-            made += usize::from(matches!(call, Call::Decide(_)));
+            made += usize::from(call.is_decision());
             made <= decisions
         });
         Workload {
             name: self.name.clone(),
             book: self.book.clone(),
             script: script.copied().collect(),
+            measured: self.measured,
         }
     }
 
