@@ -5,13 +5,13 @@ use native.Mathlib.Omega.{arith}
 use mathlib.Core.Bool.{Bool, true, _||_, or-true}
 use mathlib.Core.List.{List, [], _∷_}
 use mathlib.Core.Logic.{_⊎_, inl, inr, ⊎-elim}
-use mathlib.Core.Path.{_≡_, refl, ap₂}
+use mathlib.Core.Path.{_≡_, refl, ap, ap₂, _∙_}
 use borrow.Author.Tests.{eqb-true, eq-eqb}
 use lib.Dec.{eqb}
 use lib.ListN.{length, getD}
 use Rattle.base.specs.Lists.{all, any, member, times, same, upTo}
 use Rattle.base.proofs.Bools.{and-parts, alike, both, either, never}
-use Rattle.base.proofs.Members.{times-other}
+use Rattle.base.proofs.Members.{position, times-other}
 
 pub left-or : {a : Bool} (b : Bool) → a ≡ true → (a || b) ≡ true
 left-or b e = rw e
@@ -65,6 +65,10 @@ unfolding any
 any-at p [] d i h e = absurd (omega arith)
 any-at p (x ∷ xs) d zero h e = left-or (any p xs) e
 any-at p (x ∷ xs) d (suc i) h e = right-or (p x) (any-at p xs d i (le-of-suc-le-suc h) e)
+
+-- some element, as a member
+pub any-member : (p : ℕ → Bool) (xs : List ℕ) (x : ℕ) → member x xs ≡ true → p x ≡ true → any p xs ≡ true
+any-member p xs x m h = let at = position x xs m in any-at p xs 0 (at .0) (at .1) (ap p (at .2) ∙ h)
 
 -- a number stands in a list exactly if it is counted there
 pub member-times : (x : ℕ) (xs : List ℕ) → member x xs ≡ true → 0 < times x xs

@@ -8,4 +8,5 @@ pub mod Until
 pub mod Copies
 pub mod ForAll
 pub mod Occurrences
+pub mod Firsts
 pub mod Tables

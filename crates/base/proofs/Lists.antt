@@ -3,7 +3,7 @@ use Prim.Native.Nat.{ℕ, zero, suc, _+_, _-_, _≤_, _<_}
 use native.Mathlib.Nat.{suc-sub-suc, sub-zero}
 use native.Mathlib.Omega.{arith}
 use mathlib.Core.Bool.{Bool, true, false, _&&_, and-true, and-assoc}
-use mathlib.Core.List.{List, [], _∷_, _++_, append-assoc, append-nil}
+use mathlib.Core.List.{List, [], _∷_, _++_, map, append-assoc, append-nil, List·Memᴰ, List·Memᴰ·head, List·Memᴰ·tail}
 use mathlib.Core.Logic.{_⊎_, inl, inr}
 use mathlib.Core.Path.{_≡_, refl, sym, ap, _∙_}
 use borrow.Author.Tests.{eqb-true, eqb-false, eq-eqb, ne-eqb, ltb-true, ltb-false}
@@ -44,6 +44,11 @@ module _ {A : Type 0} where
   part-taken (suc s) (suc t) [] h = take-nil (suc t - suc s)
   part-taken (suc s) (suc t) (x ∷ l) h = ap (λ (k : ℕ). take k (drop s l)) (suc-sub-suc t s) ∙ part-taken s t l (omega arith)
 
+  pub take-drop : (n s : ℕ) (l : List A) → take n (drop s l) ≡ drop s (take (s + n) l)
+  take-drop n s l =
+      let same : n ≡ s + n - s = omega arith in
+      ap (λ (k : ℕ). take k (drop s l)) same ∙ part-taken s (s + n) l (omega arith)
+
   pub part-none : (s : ℕ) (l : List A) → part s s l ≡ []
   part-none s l =
       let none : s - s ≡ 0 = omega arith in
@@ -79,6 +84,12 @@ module _ {A : Type 0} where
   all-at p [] d e i h = absurd (omega arith)
   all-at p (x ∷ xs) d e zero h = and-parts (p x) (all p xs) e .0
   all-at p (x ∷ xs) d e (suc i) h = all-at p xs d (and-parts (p x) (all p xs) e .1) i (omega arith)
+
+  -- and of each that is one of them
+  pub all-of : (p : A → Bool) (xs : List A) → all p xs ≡ true → {x : A} → List·Memᴰ x xs → p x ≡ true
+  unfolding all
+  all-of p (y ∷ xs) h (List·Memᴰ·head e) = rw e (and-parts (p y) (all p xs) h .0)
+  all-of p (y ∷ xs) h (List·Memᴰ·tail m) = all-of p xs (and-parts (p y) (all p xs) h .1) m
 
   pub length-more : (xs : List A) (x : A) → length (xs ++ (x ∷ [])) ≡ suc (length xs)
   length-more xs x = length-append xs (x ∷ []) ∙ omega arith
@@ -119,6 +130,16 @@ module _ {A : Type 0} where
   unfolding flat
   flat-more xss xs = rw (flat-append xss (xs ∷ []), append-nil)
 
+  -- lists of which each is mapped to none longer: together they are none longer
+  pub flat-shorter : (p : List A → Bool) (f : List A → List A) → ((xs : List A) → p xs ≡ true → length (f xs) ≤ length xs) → (xss : List (List A))
+      → all p xss ≡ true → length (flat (map f xss)) ≤ length (flat xss)
+  unfolding all flat
+  flat-shorter p f short [] h = omega arith
+  flat-shorter p f short (xs ∷ xss) h =
+      let parts = and-parts (p xs) (all p xss) h in
+      rw (length-append (f xs) (flat (map f xss)), length-append xs (flat xss))
+      (omega (arith, short xs (parts .0), flat-shorter p f short xss (parts .1)))
+
   pub empty-test : (xs : List A) → empty xs ≡ eqb (length xs) 0
   unfolding empty
   empty-test [] = sym (eq-eqb 0 0 refl)
@@ -130,6 +151,22 @@ module _ {A : Type 0} where
 
   pub empty-false : (xs : List A) → 1 ≤ length xs → empty xs ≡ false
   empty-false xs h = empty-test xs ∙ ne-eqb (length xs) 0 (λ e. omega arith)
+
+-- mapped elements: what they are, and back again
+module _ {A B : Type 0} (q : A → Bool) (f : A → B) where
+  pub all-map : (p : B → Bool) → ((x : A) → q x ≡ true → p (f x) ≡ true) → (xs : List A) → all q xs ≡ true → all p (map f xs) ≡ true
+  unfolding all
+  all-map p imply [] h = refl
+  all-map p imply (x ∷ xs) h =
+      let parts = and-parts (q x) (all q xs) h in
+      rw (imply x (parts .0), all-map p imply xs (parts .1))
+
+  pub map-undone : (g : B → A) → ((x : A) → q x ≡ true → g (f x) ≡ x) → (xs : List A) → all q xs ≡ true → map g (map f xs) ≡ xs
+  unfolding all
+  map-undone g back [] h = refl
+  map-undone g back (x ∷ xs) h =
+      let parts = and-parts (q x) (all q xs) h in
+      rw (back x (parts .0), map-undone g back xs (parts .1))
 
 -- the first number from a place on
 pub begins-at : (b : ℕ) (xs : List ℕ) (i : ℕ) → i < length xs → begins b (drop i xs) ≡ eqb (getD xs i 0) b

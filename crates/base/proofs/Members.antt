@@ -1,6 +1,7 @@
--- Laws of numbers in lists: membership, no number twice, how often a number stands in a list.
-use Prim.Native.Nat.{ℕ, zero, suc, _<_}
+-- Laws of numbers in lists: membership, a loop that looks for a number, no number twice, how often a number stands in a list.
+use Prim.Native.Nat.{ℕ, zero, suc, _+_, _≤_, _<_}
 use native.Mathlib.Nat.{le-of-suc-le-suc}
+use native.Mathlib.Numerals.{add-one}
 use native.Mathlib.Omega.{arith}
 use mathlib.Core.Bool.{Bool, true, false, cond, not, _&&_, _||_, or-true, or-false, or-assoc}
 use mathlib.Core.List.{List, [], _∷_, _++_}
@@ -8,9 +9,10 @@ use mathlib.Core.Logic.{_⊎_, inl, inr}
 use mathlib.Core.Path.{_≡_, refl, sym, ap, _∙_}
 use borrow.Author.Tests.{eqb-true, eqb-false, eq-eqb, ne-eqb, not-true}
 use lib.Dec.{eqb}
-use lib.ListN.{length, getD}
+use lib.ListN.{length, getD, take, drop, take-append-drop, drop-of-length-le}
+use lib.Seq.{drop-cons}
 use Rattle.base.specs.Lists.{keep, member, distinct, times}
-use Rattle.base.proofs.Bools.{either, neither-left, neither-right, never, refuted, eqb-sym, and-parts}
+use Rattle.base.proofs.Bools.{either, neither-left, never, refuted, eqb-sym, and-parts}
 
 -- what stands in two lists, one after the other, stands in one of them
 pub member-append : (x : ℕ) (xs ys : List ℕ) → member x (xs ++ ys) ≡ (member x xs || member x ys)
@@ -44,18 +46,6 @@ distinct-front (x ∷ xs) ys e =
     let apart : (member x xs || member x ys) ≡ false = rw member-append at (not-true (member x (xs ++ ys)) (parts .0)) in
     rw (neither-left (member x xs) (member x ys) apart, distinct-front xs ys (parts .1))
 
--- in a list without repetition, an element does not stand before itself
-pub distinct-middle : (xs : List ℕ) (y : ℕ) (ys : List ℕ) → distinct (xs ++ (y ∷ ys)) ≡ true → member y xs ≡ false
-unfolding distinct member
-distinct-middle [] y ys h = refl
-distinct-middle (x ∷ xs) y ys h =
-    let parts = and-parts (not (member x (xs ++ (y ∷ ys)))) (distinct (xs ++ (y ∷ ys))) h in
-    let apart : (member x xs || (eqb x y || member x ys)) ≡ false
-    = rw member-append at (not-true (member x (xs ++ (y ∷ ys))) (parts .0)) in
-    let other : eqb x y ≡ false
-    = neither-left (eqb x y) (member x ys) (neither-right (member x xs) (eqb x y || member x ys) apart) in
-    rw (eqb-sym y x, other, distinct-middle xs y ys (parts .1))
-
 -- the element at a position stands in the list, and what stands in it has a position
 pub member-at : (xs : List ℕ) (i : ℕ) → i < length xs → member (getD xs i 0) xs ≡ true
 unfolding member
@@ -72,6 +62,29 @@ position x (y ∷ xs) h = go (either (eqb x y) (member x xs) h) (position x xs)
         → (i : ℕ) × (i < length (y ∷ xs)) × (getD (y ∷ xs) i 0 ≡ x)
     go (inl e) found = (0, omega arith, sym (eqb-true x y e))
     go (inr m) found = let p = found m in (suc (p .0), omega arith, p .2)
+
+-- what stands among the first i stands in the list
+pub member-front : (x : ℕ) (xs : List ℕ) (i : ℕ) → member x (take i xs) ≡ true → member x xs ≡ true
+member-front x xs i m = rw (← take-append-drop i xs, member-append x (take i xs) (drop i xs), m)
+
+-- what a loop over an index i knows that looks for a number: it is none of the first i, so what follows decides
+pub record Unmet (x : ℕ) (xs : List ℕ) (i : ℕ) : Type 0 where
+  pub within : i ≤ length xs
+  pub rest : member x (drop i xs) ≡ member x xs
+
+module _ (x : ℕ) (xs : List ℕ) where
+  pub unmet-none : Unmet x xs 0
+  unmet-none = record { within = omega arith; rest = refl }
+
+  pub unmet-more : (i : ℕ) → Unmet x xs i → i < length xs → (getD xs i 0 ≡ x → ⊥) → Unmet x xs (i + 1)
+  unfolding member
+  unmet-more i u h n =
+      let here : member x (drop i xs) ≡ (eqb x (getD xs i 0) || member x (drop (suc i) xs)) = ap (member x) (drop-cons xs i 0 h) in
+      record { within = omega arith; rest = rw (add-one i) (sym (here ∙ rw (ne-eqb x (getD xs i 0) (λ e. n (sym e)))) ∙ u .rest) }
+
+  pub unmet-all : (i : ℕ) → Unmet x xs i → length xs ≤ i → member x xs ≡ false
+  unfolding member
+  unmet-all i u h = sym (u .rest) ∙ ap (member x) (drop-of-length-le xs h)
 
 fresh-head : (x : ℕ) (xs : List ℕ) (j : ℕ) → distinct (x ∷ xs) ≡ true → j < length xs → x ≡ getD xs j 0 → ⊥
 unfolding distinct

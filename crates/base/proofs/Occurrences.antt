@@ -1,18 +1,19 @@
--- How often a number stands in a list: in two lists joined, in a list without it, and functions that agree on what stands there.
+-- How often a number stands in a list: in two lists joined, in a list without it; functions that agree on what stands there, and their values of it.
 use Prim.Native.Nat.{ℕ, zero, suc, _+_, _-_, _≤_, _<_}
 use native.Mathlib.Nat.{le-of-suc-le-suc}
 use native.Mathlib.Omega.{arith}
-use mathlib.Core.Bool.{Bool, true, false, cond, not}
+use mathlib.Core.Bool.{Bool, true, false, cond, not, or-true}
 use mathlib.Core.List.{List, [], _∷_, _++_, map}
+use mathlib.Core.Logic.{_⊎_, inl, inr}
 use mathlib.Core.Path.{_≡_, refl, sym, ap, ap₂, _∙_}
 use borrow.Author.Tests.{eqb-true, eqb-false, eq-eqb, ne-eqb}
 use lib.Dec.{eqb}
 use lib.ListN.{length, getD, set, length-map}
 use Rattle.base.specs.Lists.{keep, member, distinct, times}
-use Rattle.base.proofs.Bools.{refuted}
+use Rattle.base.proofs.Bools.{either, never, refuted}
 use Rattle.base.proofs.Members.{times-same, position}
 use Rattle.base.proofs.Pigeonhole.{pigeonhole}
-use Rattle.base.proofs.ForAll.{member-times}
+use Rattle.base.proofs.ForAll.{member-times, times-member}
 
 pub times-more : (x y : ℕ) (ys : List ℕ) → times x ys ≤ times x (y ∷ ys)
 unfolding times
@@ -110,6 +111,21 @@ times-map-in f x (y ∷ xs) h = go (eqb x y) refl h (times-map-in f x xs)
         → 0 < times (f x) (f y ∷ map f xs)
     go true e k rest = rw (eqb-true x y e) (omega (arith, times-same (f y) (map f xs)))
     go false e k rest = let z = rest k in omega (arith, times-more (f x) (f y) (map f xs))
+
+-- the value of what stands in a list stands among the values, and each value is of something that stands there
+module _ (f : ℕ → ℕ) where
+  pub member-map : (x : ℕ) (xs : List ℕ) → member x xs ≡ true → member (f x) (map f xs) ≡ true
+  member-map x xs m = times-member (f x) (map f xs) (times-map-in f x xs (member-times x xs m))
+
+  pub map-member : (y : ℕ) (xs : List ℕ) → member y (map f xs) ≡ true → (x : ℕ) × (member x xs ≡ true) × (f x ≡ y)
+  unfolding member
+  map-member y [] m = absurd (never m refl)
+  map-member y (x ∷ xs) m = go (either (eqb y (f x)) (member y (map f xs)) m) (map-member y xs)
+    where
+      go : (eqb y (f x) ≡ true) ⊎ (member y (map f xs) ≡ true) → (member y (map f xs) ≡ true → (z : ℕ) × (member z xs ≡ true) × (f z ≡ y))
+          → (z : ℕ) × (member z (x ∷ xs) ≡ true) × (f z ≡ y)
+      go (inl e) found = (x, rw (eq-eqb x x refl), sym (eqb-true y (f x) e))
+      go (inr k) found = let p = found k in (p .0, rw (p .1, or-true), p .2)
 
 -- no number more than once: no number twice
 pub once-distinct : (xs : List ℕ) → ((x : ℕ) → times x xs ≤ 1) → distinct xs ≡ true

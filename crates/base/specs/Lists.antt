@@ -61,6 +61,11 @@ times x (y ∷ ys) = cond (eqb x y) (suc (times x ys)) (times x ys)
 unfoldable pub without : ℕ → List ℕ → List ℕ
 without x ys = keep (λ (y : ℕ). not (eqb y x)) ys
 
+-- each number of the list once, at its first place
+unfoldable pub firsts : List ℕ → List ℕ
+firsts [] = []
+firsts (x ∷ xs) = x ∷ without x (firsts xs)
+
 -- the longest front part in which the test holds of no number
 unfoldable pub until : (ℕ → Bool) → List ℕ → List ℕ
 until stop [] = []

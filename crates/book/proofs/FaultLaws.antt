@@ -1,20 +1,25 @@
--- The answer to a text is the least of its faults, by place, then by number; a text without faults is accepted, and no other.
+-- The answer to a text is the least of its faults, by place, then by number, and never 7; a text without faults is accepted, and no other.
 use Prim.Native.Nat.{ℕ, _≤_, _<_}
 use native.Mathlib.Omega.{arith}
-use mathlib.Core.Path.{_≡_, refl, sym}
-use mathlib.Core.Logic.{_⊎_, inl, inr}
-use mathlib.Core.Bool.{Bool, true, false, cond, _&&_, _||_, or-true, false≢true, true≢false}
+use mathlib.Core.Path.{_≡_, refl, sym, ap, _∙_}
+use mathlib.Core.Logic.{_⊎_, inl, inr, ⊎-elim}
+use mathlib.Core.Bool.{Bool, true, false, cond, not, _&&_, _||_, or-true, false≢true, true≢false}
 use mathlib.Core.List.{List, [], _∷_, List·Memᴰ, List·Memᴰ·head, List·Memᴰ·tail}
 use mathlib.Core.Option.{Option, none, some}
 use lib.Dec.{leb, ltb, eqb}
 use lib.ListN.{length}
 use borrow.Author.Tests.{ltb-true, ltb-false, leb-true, leb-false, eqb-true, eqb-false, lt-ltb, le-leb, eq-eqb, le-ltb}
 use Rattle.base.specs.Lists.{all}
-use Rattle.base.proofs.Lists.{all-imply}
-use Rattle.book.specs.Formula.{Formula}
-use Rattle.book.specs.Text.{linesOf}
-use Rattle.book.specs.Faults.{Fault, faultsOf}
-use Rattle.book.specs.Reading.{maxText, before, earlier, least, formulaIn, refused, accepted, judged, readText}
+use Rattle.base.proofs.Bools.{below, never}
+use Rattle.base.proofs.Lists.{all-imply, all-both, all-of}
+use Rattle.book.specs.Formula.{Formula, literals}
+use Rattle.book.specs.Numbers.{numbersOf}
+use Rattle.book.specs.Text.{Piece, Token, tokenOf, linesOf, Header, header, malformed, headerOf}
+use Rattle.book.specs.Faults.{Fault, fault, unfinished, faultsAt, faultsFrom, outside, bodyOf, faultsUnder, faultsOf}
+use Rattle.book.specs.Reading.{maxText, before, earlier, least, formulaIn, readFormula, Judged, refused, accepted, judged, readText}
+use Rattle.book.specs.Answer.{readAnswer}
+use Rattle.book.specs.declared.Reading.the-variants.{Book, Refused}
+use Rattle.book.proofs.LeastFault.{all-fault}
 use Rattle.book.proofs.Accepted.{accepted-short}
 
 -- the order of faults, by its parts
@@ -100,7 +105,7 @@ answer-is-least text n short h =
     (rw (le-ltb maxText (length text) short) at h)
   where
     go : (found : Option Fault) → FoundLeast (faultsOf (length text) (linesOf text)) found
-        → judged found (formulaIn (linesOf text)) ≡ refused n
+        → judged found (readFormula (formulaIn (linesOf text))) ≡ refused n
         → (f : Fault) × Least (faultsOf (length text) (linesOf text)) f × (f .number ≡ n)
     go none e h = let z : _≡_ {A = ℕ} 0 1 = cc in absurd (omega arith)
     go (some f) l h = (f, l, cc)
@@ -114,14 +119,14 @@ accepted-no-fault text formula h =
     (rw (accepted-short text formula h) at h)
   where
     go : (found : Option Fault) → FoundLeast (faultsOf (length text) (linesOf text)) found
-        → judged found (formulaIn (linesOf text)) ≡ accepted formula
+        → judged found (readFormula (formulaIn (linesOf text))) ≡ accepted formula
         → faultsOf (length text) (linesOf text) ≡ []
     go none e h = e
     go (some f) l h = let z : _≡_ {A = ℕ} 0 1 = cc in absurd (omega arith)
 
--- A text without faults is accepted, as the formula that it writes.
+-- A text without faults is accepted, as the formula that it writes, as read.
 pub no-fault-accepted : (text : List ℕ) → length text ≤ maxText → faultsOf (length text) (linesOf text) ≡ []
-    → readText text ≡ accepted (formulaIn (linesOf text))
+    → readText text ≡ accepted (readFormula (formulaIn (linesOf text)))
 unfolding readText least judged
 no-fault-accepted text short h = rw (le-ltb maxText (length text) short, h)
 
@@ -129,3 +134,57 @@ no-fault-accepted text short h = rw (le-ltb maxText (length text) short, h)
 pub too-long : (text : List ℕ) → maxText < length text → readText text ≡ refused 1
 unfolding readText
 too-long text h = rw (lt-ltb maxText (length text) h)
+
+-- No fault has number 7, so no text is refused by it.
+not-7 : Fault → Bool
+not-7 f = not (eqb (f .number) 7)
+
+word-not-7 : (variables clauses : ℕ) (past : List Token) (p : ℕ) (token : Token) → all not-7 (faultsAt variables clauses past p token) ≡ true
+unfolding faultsAt not-7
+word-not-7 variables clauses past p token =
+    let one : (there : Bool) (n : ℕ) → not (eqb n 7) ≡ true → all not-7 (fault there p n) ≡ true = λ there n h. all-fault not-7 there p n h in
+    all-both not-7 _ _ (one _ 4 refl)
+    (all-both not-7 _ _ (one _ 5 refl) (all-both not-7 _ _ (one _ 6 refl) (all-both not-7 _ _ (one _ 8 refl) (one _ 9 refl))))
+
+words-not-7 : (variables clauses end : ℕ) (past : List Token) (words : List Piece) → all not-7 (faultsFrom variables clauses end past words) ≡ true
+unfolding faultsFrom not-7
+words-not-7 variables clauses end past [] = all-fault not-7 (unfinished clauses past) end 8 refl
+words-not-7 variables clauses end past (word ∷ words) =
+    all-both not-7 _ _ (word-not-7 variables clauses past (word .place) (tokenOf (word .bytes)))
+    (words-not-7 variables clauses end (tokenOf (word .bytes) ∷ past) words)
+
+under-not-7 : (place : ℕ) (head : Header) (end : ℕ) (words : List Piece) → all not-7 (faultsUnder place head end words) ≡ true
+unfolding faultsUnder not-7
+under-not-7 place malformed end words = all-fault not-7 true place 2 refl
+under-not-7 place (header variables clauses) end words =
+    all-both not-7 _ _ (all-fault not-7 (outside variables clauses) place 3 refl) (words-not-7 variables clauses end [] words)
+
+faults-not-7 : (end : ℕ) (lines : List Piece) → all not-7 (faultsOf end lines) ≡ true
+unfolding faultsOf not-7
+faults-not-7 end [] = all-fault not-7 true end 2 refl
+faults-not-7 end (line ∷ lines) = under-not-7 (line .place) (headerOf line) end (bodyOf lines)
+
+not-refused-7 : (text : List ℕ) → readText text ≡ refused 7 → ⊥
+unfolding not-7
+not-refused-7 text h = ⊎-elim over within (below maxText (length text))
+  where
+    within : length text ≤ maxText → ⊥
+    within k =
+        let f = answer-is-least text 7 k h in
+        let other = all-of not-7 _ (faults-not-7 (length text) (linesOf text)) (f .1 .one-of-them) in
+        never other (ap not (eq-eqb (f .0 .number) 7 (f .2)))
+
+    over : maxText < length text → ⊥
+    over k = let e : refused 1 ≡ refused 7 = sym (too-long text k) ∙ h in let z : _≡_ {A = ℕ} 1 7 = cc in absurd (omega arith)
+
+-- Number 7 is never given.
+pub never-7 : (text : List ℕ) (room : ℕ) → readAnswer (readText text) room ≡ Refused 7 → ⊥
+never-7 text room = go (readText text) refl
+  where
+    go : (judged : Judged) → readText text ≡ judged → readAnswer judged room ≡ Refused 7 → ⊥
+    go (refused n) e a = let is : n ≡ 7 = cc in not-refused-7 text (e ∙ ap refused is)
+    go (accepted formula) e a = book (ltb room (length (numbersOf formula))) a
+      where
+        book : (short : Bool) → cond short (Refused 10) (Book (formula .variables) (length (formula .clauses)) (length (literals formula))) ≡ Refused 7 → ⊥
+        book true a = let z : _≡_ {A = ℕ} 10 7 = cc in absurd (omega arith)
+        book false a = let z : _≡_ {A = ℕ} 0 1 = cc in absurd (omega arith)

@@ -1,5 +1,5 @@
 -- The least of a list of faults: of those at one place the lowest number, then the later places; and the answer that it makes.
-use Prim.Native.Nat.{ℕ, suc}
+use Prim.Native.Nat.{ℕ, suc, _≤_}
 use native.Mathlib.Omega.{arith}
 use mathlib.Core.Path.{_≡_, refl}
 use mathlib.Core.Bool.{Bool, true, false, cond, _&&_, _||_, or-true}
@@ -11,7 +11,7 @@ use Rattle.base.specs.Lists.{all}
 use Rattle.base.proofs.Lists.{all-both, all-imply}
 use Rattle.book.specs.Formula.{Formula}
 use Rattle.book.specs.Text.{Piece, Token, tokenOf}
-use Rattle.book.specs.Faults.{Fault, fault, notNumber, overVariables, wrongLength, repeated, surplus, unfinished, overLiterals, faultsAt, faultsFrom}
+use Rattle.book.specs.Faults.{Fault, fault, notNumber, overVariables, wrongLength, surplus, unfinished, overLiterals, faultsAt, faultsFrom}
 use Rattle.book.specs.Reading.{before, earlier, least, Judged, refused, accepted, judged}
 use Rattle.book.proofs.WordPlaces.{placesRise}
 
@@ -43,32 +43,32 @@ unfolding fault
 least-fault true p n faults h = least-first (fault-at p n) faults h
 least-fault false p n faults h = refl
 
-all-fault : (q : Fault → Bool) (there : Bool) (p n : ℕ) → q (fault-at p n) ≡ true → all q (fault there p n) ≡ true
+pub all-fault : (q : Fault → Bool) (there : Bool) (p n : ℕ) → q (fault-at p n) ≡ true → all q (fault there p n) ≡ true
 unfolding fault all
 all-fault q true p n h = rw h
 all-fault q false p n h = refl
 
 -- at one place the numbers rise
-before-next : (p n : ℕ) → before (fault-at p n) (fault-at p (suc n)) ≡ true
+before-next : (p n m : ℕ) → n ≤ m → before (fault-at p n) (fault-at p m) ≡ true
 unfolding before
-before-next p n = rw (eq-eqb p p refl, le-leb n (suc n) (omega arith), or-true)
+before-next p n m up = rw (eq-eqb p p refl, le-leb n m up, or-true)
 
-before-weaken : (p n : ℕ) (f : Fault) → before (fault-at p (suc n)) f ≡ true → before (fault-at p n) f ≡ true
+before-weaken : (p n m : ℕ) → n ≤ m → (f : Fault) → before (fault-at p m) f ≡ true → before (fault-at p n) f ≡ true
 unfolding before
-before-weaken p n f h =
-    go (ltb p (f .place)) (eqb p (f .place)) (leb (suc n) (f .number)) (leb n (f .number))
-    (λ e. le-leb n (f .number) (omega (arith, leb-true (suc n) (f .number) e))) h
+before-weaken p n m up f h =
+    go (ltb p (f .place)) (eqb p (f .place)) (leb m (f .number)) (leb n (f .number))
+    (λ e. le-leb n (f .number) (omega (arith, leb-true m (f .number) e))) h
   where
     go : (a b c d : Bool) → (c ≡ true → d ≡ true) → (a || (b && c)) ≡ true → (a || (b && d)) ≡ true
     go true b c d imply h = refl
     go false true c d imply h = imply h
     go false false c d imply h = h
 
-faults-next : (there : Bool) (p n : ℕ) (faults : List Fault) → all (before (fault-at p (suc n))) faults ≡ true
-    → all (before (fault-at p n)) (fault there p (suc n) ++ faults) ≡ true
-faults-next there p n faults h =
-    all-both (before (fault-at p n)) (fault there p (suc n)) faults (all-fault (before (fault-at p n)) there p (suc n) (before-next p n))
-    (all-imply (before (fault-at p (suc n))) (before (fault-at p n)) (before-weaken p n) faults h)
+faults-next : (there : Bool) (p n m : ℕ) → n ≤ m → (faults : List Fault) → all (before (fault-at p m)) faults ≡ true
+    → all (before (fault-at p n)) (fault there p m ++ faults) ≡ true
+faults-next there p n m up faults h =
+    all-both (before (fault-at p n)) (fault there p m) faults (all-fault (before (fault-at p n)) there p m (before-next p n m up))
+    (all-imply (before (fault-at p m)) (before (fault-at p n)) (before-weaken p n m up) faults h)
 
 -- a later place comes behind every number
 pub later-before : (p n : ℕ) (f : Fault) → ltb p (f .place) ≡ true → before (fault-at p n) f ≡ true
@@ -91,8 +91,7 @@ words-later variables clauses end p past (word ∷ words) h =
         let one : (there : Bool) (n : ℕ) → all later (fault there (word .place) n) ≡ true =
         λ there n. all-fault later there (word .place) n e in
         all-both later _ _ (one _ 4)
-        (all-both later _ _ (one _ 5)
-        (all-both later _ _ (one _ 6) (all-both later _ _ (one _ 7) (all-both later _ _ (one _ 8) (one _ 9)))))
+        (all-both later _ _ (one _ 5) (all-both later _ _ (one _ 6) (all-both later _ _ (one _ 8) (one _ 9))))
 
     go : (b : Bool) → ltb p (word .place) ≡ b → (b && placesRise (suc (word .place)) end words) ≡ true
         → (placesRise (suc (word .place)) end words ≡ true
@@ -117,9 +116,8 @@ tests variables clauses past token answer =
     cond (notNumber token) (refused 4)
     (cond (overVariables variables token) (refused 5)
     (cond (wrongLength past token) (refused 6)
-    (cond (repeated past token) (refused 7)
     (cond (surplus clauses past token) (refused 8)
-    (cond (overLiterals past token) (refused 9) answer)))))
+    (cond (overLiterals past token) (refused 9) answer))))
 
 pub at-word : (variables clauses : ℕ) (past : List Token) (p : ℕ) (token : Token) (faults : List Fault) (formula : Formula)
     → all (λ (f : Fault). ltb p (f .place)) faults ≡ true
@@ -132,14 +130,11 @@ at-word variables clauses past p token faults formula h =
       append-assoc,
       append-assoc,
       append-assoc,
-      append-assoc,
       least-fault (notNumber token) p 4 _ h4,
       least-fault (overVariables variables token) p 5 _ h5,
       least-fault (wrongLength past token) p 6 _ h6,
-      least-fault (repeated past token) p 7 _ h7,
       least-fault (surplus clauses past token) p 8 _ h8,
       least-fault (overLiterals past token) p 9 _ h9,
-      judged-cond,
       judged-cond,
       judged-cond,
       judged-cond,
@@ -154,28 +149,22 @@ at-word variables clauses past p token faults formula h =
     f9 = fault (overLiterals past token) p 9 ++ faults
 
     h8 : all (before (fault-at p 8)) f9 ≡ true
-    h8 = faults-next (overLiterals past token) p 8 faults h9
+    h8 = faults-next (overLiterals past token) p 8 9 (omega arith) faults h9
 
     f8 : List Fault
     f8 = fault (surplus clauses past token) p 8 ++ f9
 
-    h7 : all (before (fault-at p 7)) f8 ≡ true
-    h7 = faults-next (surplus clauses past token) p 7 f9 h8
-
-    f7 : List Fault
-    f7 = fault (repeated past token) p 7 ++ f8
-
-    h6 : all (before (fault-at p 6)) f7 ≡ true
-    h6 = faults-next (repeated past token) p 6 f8 h7
+    h6 : all (before (fault-at p 6)) f8 ≡ true
+    h6 = faults-next (surplus clauses past token) p 6 8 (omega arith) f9 h8
 
     f6 : List Fault
-    f6 = fault (wrongLength past token) p 6 ++ f7
+    f6 = fault (wrongLength past token) p 6 ++ f8
 
     h5 : all (before (fault-at p 5)) f6 ≡ true
-    h5 = faults-next (wrongLength past token) p 5 f7 h6
+    h5 = faults-next (wrongLength past token) p 5 6 (omega arith) f8 h6
 
     h4 : all (before (fault-at p 4)) (fault (overVariables variables token) p 5 ++ f6) ≡ true
-    h4 = faults-next (overVariables variables token) p 4 f6 h5
+    h4 = faults-next (overVariables variables token) p 4 5 (omega arith) f6 h5
 
 pub one-fault : (there : Bool) (p n : ℕ) (formula : Formula)
     → judged (least (fault there p n)) formula ≡ cond there (refused n) (accepted formula)

@@ -1,5 +1,6 @@
 -- The laws of `book` that proofs cite.
 pub mod Accepted
+pub mod AsReadLaws
 pub mod DecimalLaws
 pub mod Digits
 pub mod FaultLaws
@@ -12,6 +13,8 @@ pub mod ReadIsWalk
 pub mod ReadLaws
 pub mod SoundLaws
 pub mod WalkAccepts
+pub mod WalkWithin
 pub mod WellFormedLaws
 pub mod WordLaws
 pub mod WordPlaces
+pub mod WrittenLaws

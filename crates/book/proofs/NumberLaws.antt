@@ -4,14 +4,15 @@ use mathlib.Core.Bool.{true}
 use mathlib.Core.List.{List, [], _∷_, _++_, append-assoc}
 use mathlib.Core.Path.{_≡_, refl, sym, _∙_, ap, ap₂}
 use native.Mathlib.Omega.{arith}
-use borrow.Author.Tests.{le-leb, eq-eqb}
+use borrow.Author.Tests.{le-leb}
 use lib.ListN.{length, getD, take, drop, length-append}
 use lib.Seq.{take-append-seam, drop-append-seam, drop-drop, drop-at, getD-drop}
 use Rattle.base.specs.Lists.{flat}
-use Rattle.base.proofs.Bools.{and-last}
 use Rattle.book.specs.Formula.{Formula, literals, maxBook, sound}
 use Rattle.book.specs.Numbers.{starts, numbersOf, clausesOf, startOf, clauseAt, clausesFrom, formulaOf, rising, wellFormed}
+use Rattle.book.specs.Inner.Form.{Parted}
 use Rattle.book.proofs.SoundLaws.{formula-parts}
+use Rattle.book.proofs.WellFormedLaws.{formula-decides}
 
 length-starts : (from : ℕ) (clauses : List (List ℕ)) → length (starts from clauses) ≡ suc (length clauses)
 unfolding starts
@@ -147,16 +148,15 @@ module _ (formula : Formula) (rest : List ℕ) where
       (λ (clauses : List (List ℕ)). record { variables = formula .variables; clauses = clauses })
       (clauses-held (numbersOf formula ++ rest) (literals formula ++ rest) rest 0 0 (formula .clauses) heads-all tails-all)
 
+  -- the starts part the literals
+  numbers-part : Parted (numbersOf formula ++ rest)
+  unfolding numbersOf
+  numbers-part = record {
+    long = rw (length-append, length-numbers) (omega arith);
+    first = start-held (numbersOf formula ++ rest) (literals formula ++ rest) rest 0 0 (formula .clauses) heads-all;
+    last = last-start;
+    rises = rising-held (numbersOf formula ++ rest) (literals formula ++ rest) rest 0 0 (formula .clauses) heads-all;
+  }
+
   pub numbers-well-formed : sound formula ≡ true → wellFormed (numbersOf formula ++ rest) ≡ true
-  unfolding numbersOf wellFormed
-  numbers-well-formed ok =
-      let size : length (formula .clauses) + length (literals formula) + 4 ≤ length (numbersOf formula ++ rest) =
-      rw (length-append, length-numbers) (omega arith) in
-      and-last
-      (sound (formulaOf (numbersOf formula ++ rest)))
-      (le-leb _ _ size)
-      (eq-eqb _ _ (start-held (numbersOf formula ++ rest) (literals formula ++ rest) rest 0 0 (formula .clauses) heads-all))
-      (eq-eqb _ _ last-start)
-      (rising-held (numbersOf formula ++ rest) (literals formula ++ rest) rest 0 0 (formula .clauses) heads-all)
-      ∙ ap sound formula-of-numbers
-      ∙ ok
+  numbers-well-formed ok = formula-decides (numbersOf formula ++ rest) numbers-part ∙ ap sound formula-of-numbers ∙ ok

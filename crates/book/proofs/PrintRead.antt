@@ -1,33 +1,34 @@
--- A printed formula is read back as it was, so every formula within the limits has a text that is accepted.
+-- A printed formula is read back as it was, so every formula that can be spelled within the limits has a text that is accepted.
 use Prim.Native.Nat.{ℕ, suc, _+_, _/_, _%_, _≤_, _<_}
 use native.Mathlib.Omega.{arith}
 use mathlib.Core.Path.{_≡_, refl, ap, _∙_}
 use mathlib.Core.Bool.{Bool, true, false, cond, not}
 use mathlib.Core.List.{List, [], _∷_, _++_, map, map-map, map-append, append-assoc}
 use lib.Dec.{eqb}
-use lib.ListN.{length}
+use lib.ListN.{length, length-map}
 use lib.Seq.{drop-append-seam}
 use borrow.Author.Tests.{le-ltb, ne-eqb, eqb-true, eqb-false, not-true}
 use Rattle.base.specs.Lists.{all, flat, same, begins, until}
 use Rattle.base.proofs.Bools.{and-parts}
 use Rattle.base.proofs.Lists.{all-imply}
 use Rattle.base.proofs.Until.{until-more, until-stop}
-use Rattle.book.specs.Formula.{Formula, literals, maxVariables, maxBook, literalWithin, soundClause, sound}
+use Rattle.book.specs.Formula.{Formula, literals, maxVariables, maxLiterals, maxBook, literalWithin, sound}
 use Rattle.book.specs.Text.{Piece, Token, literal, blank, lineEnd, decimal, unsigned, isDigit, unsignedToken, negativeToken, tokenOf, header, headed, headerIn, headerOf}
-use Rattle.book.specs.Reading.{maxText, accepted, readText}
+use Rattle.book.specs.Reading.{maxText, readFormula, accepted, readText}
 use Rattle.book.specs.Answer.{readAnswer}
 use Rattle.book.specs.declared.Reading.the-variants.{Book}
-use Rattle.book.specs.Printer.{printNumber, printLiteral, printClause, printText}
-use Rattle.book.specs.Inner.Walk.{tokensOf, walkUnder, walkStart}
+use Rattle.book.specs.Printer.{printNumber, printLiteral, printClause, spelled, printText}
+use Rattle.book.specs.Inner.Walk.{tokensOf, walkUnder, walkStart, readJudged}
 use Rattle.book.specs.Inner.Words.{wordsLine, wordsBehind, wordsHere, wordsStart}
 use Rattle.book.proofs.WordLaws.{line-word, line-blank, line-end, word-not-end, behind-byte, behind-end, start-plain, start-none, walk-behind, walk-lines, header-line}
 use Rattle.book.proofs.ReadIsWalk.{read-is-walk}
 use Rattle.book.proofs.Accepted.{accepted-answered}
-use Rattle.book.proofs.SoundLaws.{literal-parts, clause-parts, FormulaParts, formula-parts}
+use Rattle.book.proofs.SoundLaws.{literal-parts, FormulaParts, formula-parts}
+use Rattle.book.proofs.WrittenLaws.{writtenClause, written-parts, clauses-read-back}
 use Rattle.book.proofs.WalkAccepts.{clauseTokens, tokensFor, clauses-walk}
 use Rattle.book.proofs.parse.Laws.{within-limits}
 use Rattle.book.proofs.DecimalLaws.{token-plain}
-use Rattle.book.proofs.PrintedText.{printed-within}
+use Rattle.book.proofs.PrintedText.{spelled-clauses, printed-within}
 use Rattle.book.proofs.Digits.{number-printed, printed-unsigned, digit-not-blank, digits-begin}
 
 -- a word: bytes that are no blanks, and at least one
@@ -197,13 +198,13 @@ module _ (variables : ℕ) (v : variables ≤ maxVariables) where
       let parts = and-parts (literalWithin variables l) (all (literalWithin variables) ls) h in
       rw append-assoc (literal-begins l (32 ∷ (printClause ls ++ t)) (literal-limits variables l v (parts .0) .1))
 
-  clauses-start : (clauses : List (List ℕ)) → all (soundClause variables) clauses ≡ true
+  clauses-start : (clauses : List (List ℕ)) → all (writtenClause variables) clauses ≡ true
       → Starts (flat (map printClause clauses)) (tokensFor clauses)
   unfolding flat tokensFor tokensOf all
   clauses-start [] h at = rw start-none
   clauses-start (clause ∷ clauses) h at =
-      let parts = and-parts (soundClause variables clause) (all (soundClause variables) clauses) h in
-      let within = clause-parts variables clause (parts .0) .within in
+      let parts = and-parts (writtenClause variables clause) (all (writtenClause variables) clauses) h in
+      let within = written-parts variables clause (parts .0) .within in
       starts-plain (printClause clause ++ flat (map printClause clauses)) (clauseWords clause) (tokensFor clauses)
       (clause-begins clause (flat (map printClause clauses)) within)
       (clause-lined clause within (flat (map printClause clauses)) (tokensFor clauses) (clauses-start clauses (parts .1))) at
@@ -254,12 +255,12 @@ unfolding printText begins
 text-plain formula = refl
 
 module _ (formula : Formula) (p : FormulaParts formula) where
-  text-lined : Lined (printText formula) (headerWords (formula .variables) (length (formula .clauses))) (tokensFor (formula .clauses))
+  text-lined : Lined (printText formula) (headerWords (formula .variables) (length (formula .clauses))) (tokensFor (map spelled (formula .clauses)))
   unfolding printText
   text-lined =
       header-lined (formula .variables) (length (formula .clauses)) (omega arith) (omega arith)
-      (flat (map printClause (formula .clauses))) (tokensFor (formula .clauses))
-      (clauses-start (formula .variables) (p .few-variables) (formula .clauses) (p .sound-clauses))
+      (flat (map printClause (map spelled (formula .clauses)))) (tokensFor (map spelled (formula .clauses)))
+      (clauses-start (formula .variables) (p .few-variables) (map spelled (formula .clauses)) (spelled-clauses formula p))
 
   text-header : headerOf (record { place = 0; bytes = until lineEnd (printText formula) })
       ≡ header (formula .variables) (length (formula .clauses))
@@ -268,27 +269,40 @@ module _ (formula : Formula) (p : FormulaParts formula) where
       ∙ rw (text-begins formula, text-lined .line-words 0) (header-read (formula .variables) (length (formula .clauses)) (omega arith)
       (omega arith))
 
-  walk-printed : walkStart 0 (printText formula) ≡ accepted formula
+  walk-printed : length (flat (map spelled (formula .clauses))) ≤ maxLiterals
+      → walkStart 0 (printText formula) ≡ accepted (record { variables = formula .variables; clauses = map spelled (formula .clauses) })
   unfolding walkUnder flat
-  walk-printed =
+  walk-printed few =
       walk-behind 0 (printText formula) (text-plain formula)
       ∙ rw (
         text-header,
         text-lined .tokens-behind 0,
         within-limits (formula .variables) (length (formula .clauses)) (λ z. omega arith) (p .few-variables) (p .few-clauses),
       )
-      (clauses-walk (formula .variables) (length (formula .clauses)) [] (formula .clauses) (omega arith) (p .sound-clauses) (omega arith))
+      (clauses-walk (formula .variables) (length (formula .clauses)) [] (map spelled (formula .clauses)) (rw length-map (omega arith))
+      (spelled-clauses formula p) (omega arith))
 
--- Every formula within the limits has a text that is accepted as that formula.
-pub print-read : (formula : Formula) → sound formula ≡ true → readText (printText formula) ≡ accepted formula
-print-read formula h =
-    let short : length (printText formula) ≤ maxText = omega (arith, printed-within formula h) in
-    read-is-walk (printText formula) (le-ltb maxText (length (printText formula)) short) ∙ walk-lines (printText formula)
-    ∙ walk-printed formula (formula-parts formula h)
+  -- and is read as it was
+  printed-back : readJudged (accepted (record { variables = formula .variables; clauses = map spelled (formula .clauses) })) ≡ accepted formula
+  unfolding readJudged readFormula
+  printed-back =
+      ap (λ (clauses : List (List ℕ)). accepted (record { variables = formula .variables; clauses = clauses }))
+      (clauses-read-back (formula .variables) (formula .clauses) (p .sound-clauses))
 
--- So a reader that refuses every book breaks its promise: where 7,504 numbers are lent, every formula within the limits has a text that is
--- answered as a book.
-pub printed-answered : (formula : Formula) (buffer : List ℕ) → sound formula ≡ true → maxBook ≤ length buffer
+-- Every formula within the limits has a text that is accepted as that formula, if its clauses as spelled have at most 6,000 literals.
+pub print-read : (formula : Formula) → sound formula ≡ true → length (flat (map spelled (formula .clauses))) ≤ maxLiterals
+    → readText (printText formula) ≡ accepted formula
+print-read formula h few =
+    let p = formula-parts formula h in
+    let short : length (printText formula) ≤ maxText = omega (arith, printed-within formula h few) in
+    read-is-walk (printText formula) (le-ltb maxText (length (printText formula)) short)
+    ∙ ap readJudged (walk-lines (printText formula) ∙ walk-printed formula p few)
+    ∙ printed-back formula p
+
+-- So a reader that refuses every book breaks its promise: where 7,504 numbers are lent, every such formula has a text that is answered as a
+-- book.
+pub printed-answered : (formula : Formula) (buffer : List ℕ) → sound formula ≡ true → length (flat (map spelled (formula .clauses))) ≤ maxLiterals
+    → maxBook ≤ length buffer
     → readAnswer (readText (printText formula)) (length buffer)
     ≡ Book (formula .variables) (length (formula .clauses)) (length (literals formula))
-printed-answered formula buffer h room = accepted-answered (printText formula) formula buffer (print-read formula h) room
+printed-answered formula buffer h few room = accepted-answered (printText formula) formula buffer (print-read formula h few) room

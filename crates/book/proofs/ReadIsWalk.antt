@@ -1,20 +1,20 @@
--- Reading a text is the walk over its lines: the walk answers with the least of all faults, or else with the formula.
+-- Reading a text is the walk over its lines: the walk answers with the least of all faults, or else with the formula as written, which is then read.
 use Prim.Native.Nat.{ℕ, suc, _+_}
 use native.Mathlib.Omega.{arith}
+use mathlib.Core.Option.{Option, none, some}
 use mathlib.Core.Path.{_≡_, refl, ap, _∙_}
-use mathlib.Core.Bool.{Bool, true, false, cond, not, _&&_, _||_, or-comm, false≢true}
-use mathlib.Core.List.{List, [], _∷_, _++_, map, map-append, append-assoc, append-nil}
+use mathlib.Core.Bool.{Bool, true, false, cond, not, _&&_, _||_, false≢true}
+use mathlib.Core.List.{List, [], _∷_, _++_, append-assoc, append-nil}
 use lib.Dec.{leb, ltb, eqb}
 use lib.ListN.{length, length-append}
-use Rattle.base.specs.Lists.{keep, flat, empty, member, begins, until}
+use Rattle.base.specs.Lists.{keep, flat, empty, begins, until}
 use Rattle.base.proofs.Bools.{and-parts}
 use Rattle.base.proofs.Lists.{all-imply, flat-more, empty-length}
-use Rattle.base.proofs.Members.{member-more}
-use Rattle.book.specs.Formula.{variableOf}
+use Rattle.book.specs.Formula.{Formula}
 use Rattle.book.specs.Text.{Piece, Token, literal, close, invalid, tokenOf, lineEnd, split, notSkipped, linesOf, Header, header, malformed, headerOf}
-use Rattle.book.specs.Faults.{opened, closed, written, notNumber, overVariables, wrongLength, repeated, surplus, unfinished, overLiterals, faultsFrom, outside, bodyOf, faultsUnder, faultsOf}
-use Rattle.book.specs.Reading.{maxText, before, least, onto, clausesIn, formulaUnder, formulaIn, Judged, refused, accepted, judged, readText}
-use Rattle.book.specs.Inner.Walk.{walk, tokensOf, walkUnder, walkLines}
+use Rattle.book.specs.Faults.{Fault, opened, closed, written, notNumber, overVariables, wrongLength, surplus, unfinished, overLiterals, faultsFrom, outside, bodyOf, faultsUnder, faultsOf}
+use Rattle.book.specs.Reading.{maxText, before, least, onto, clausesIn, formulaUnder, formulaIn, readFormula, Judged, refused, accepted, judged, readText}
+use Rattle.book.specs.Inner.Walk.{walk, tokensOf, walkUnder, walkLines, readJudged}
 use Rattle.book.specs.Inner.Words.{others, wordsBehind}
 use Rattle.book.proofs.WordLaws.{split-first, behind-end, behind-byte}
 use Rattle.book.proofs.WordPlaces.{placesRise, Rises, rises}
@@ -38,21 +38,18 @@ onto-all-close (x ∷ ls) clauses = rw (onto-all-close ls clauses)
 -- what the words so far hold, the latest first, is what the walk holds
 record HeldAlike (past : List Token) (done : List (List ℕ)) (current : List ℕ) : Type 0 where
   same-length : length (opened past) ≡ length current
-  same-variables : (x : ℕ) → member x (map variableOf (opened past)) ≡ member x (map variableOf current)
   same-closed : closed past ≡ length done
   same-written : written past ≡ length (flat done) + length current
 
 held-alike-none : HeldAlike [] [] []
 unfolding opened closed written flat
-held-alike-none = record { same-length = refl; same-variables = λ x. refl; same-closed = refl; same-written = omega arith }
+held-alike-none = record { same-length = refl; same-closed = refl; same-written = omega arith }
 
 held-alike-literal : (past : List Token) (done : List (List ℕ)) (current : List ℕ) (l : ℕ) → HeldAlike past done current
     → HeldAlike (literal l ∷ past) done (current ++ (l ∷ []))
-unfolding opened closed written member
+unfolding opened closed written
 held-alike-literal past done current l h = record {
   same-length = rw length-append (omega arith);
-  same-variables = λ x. rw (map-append, member-more, h .same-variables x)
-      (or-comm (eqb x (variableOf l)) (member x (map variableOf current)));
   same-closed = h .same-closed;
   same-written = rw length-append (omega arith);
 }
@@ -62,7 +59,6 @@ held-alike-close : (past : List Token) (done : List (List ℕ)) (current : List 
 unfolding opened closed written flat
 held-alike-close past done current h = record {
   same-length = refl;
-  same-variables = λ x. refl;
   same-closed = rw length-append (omega arith);
   same-written = rw (flat-more, length-append) (omega arith);
 }
@@ -85,12 +81,11 @@ module _ (variables clauses : ℕ) (past : List Token) (done : List (List ℕ)) 
     (tokens : List Token) (answer : Judged) where
   tests-literal : (l : ℕ) → answer ≡ walk variables clauses done (current ++ (l ∷ [])) tokens
       → tests variables clauses past (literal l) answer ≡ walk variables clauses done current (literal l ∷ tokens)
-  unfolding notNumber overVariables wrongLength repeated surplus overLiterals walk
+  unfolding notNumber overVariables wrongLength surplus overLiterals walk
   tests-literal l e =
       rw (
         empty-length (opened past) current (held .same-length),
         held .same-length,
-        held .same-variables (variableOf l),
         held .same-closed,
         held .same-written,
         e,
@@ -98,7 +93,7 @@ module _ (variables clauses : ℕ) (past : List Token) (done : List (List ℕ)) 
 
   tests-close : (ls : List ℕ) → current ≡ ls → answer ≡ walk variables clauses (done ++ (current ∷ [])) [] tokens
       → tests variables clauses past close answer ≡ walk variables clauses done current (close ∷ tokens)
-  unfolding notNumber overVariables wrongLength repeated surplus overLiterals walk empty
+  unfolding notNumber overVariables wrongLength surplus overLiterals walk empty
   tests-close [] i e = rw (empty-length (opened past) current (held .same-length), i)
   tests-close (l ∷ ls) i e = rw (empty-length (opened past) current (held .same-length), e, i)
 
@@ -157,7 +152,7 @@ agrees variables clauses end (word ∷ words) past done current from held h =
     go invalid ih = tests-invalid variables clauses past done current held (tokensOf words) _
 
 -- the lines: the first one is the header
-abbrev LinesAgree : ℕ → List Piece → Type 0
+abbrev pub LinesAgree : ℕ → List Piece → Type 0
 LinesAgree end lines = judged (least (faultsOf end lines)) (formulaIn lines) ≡ walkLines lines
 
 no-line : (end : ℕ) → LinesAgree end []
@@ -240,7 +235,17 @@ others-agree end at (b ∷ t) h = go (lineEnd b) (others-agree end (suc at) t (o
     go true ih = lines-agree end (suc at) t (omega arith) ih
     go false ih = ih
 
--- reading a text is the walk over its lines
-pub read-is-walk : (text : List ℕ) → ltb maxText (length text) ≡ false → readText text ≡ walkLines (linesOf text)
-unfolding readText linesOf
-read-is-walk text h = rw h (lines-agree (length text) 0 text (omega arith) (others-agree (length text) 0 text (omega arith)))
+-- what a text is as written, by its faults, is the walk over its lines
+pub written-is-walk : (text : List ℕ) → LinesAgree (length text) (linesOf text)
+unfolding linesOf
+written-is-walk text = lines-agree (length text) 0 text (omega arith) (others-agree (length text) 0 text (omega arith))
+
+judged-read : (found : Option Fault) (formula : Formula) → judged found (readFormula formula) ≡ readJudged (judged found formula)
+unfolding judged readJudged
+judged-read none formula = refl
+judged-read (some f) formula = refl
+
+-- reading a text is the walk over its lines, as read
+pub read-is-walk : (text : List ℕ) → ltb maxText (length text) ≡ false → readText text ≡ readJudged (walkLines (linesOf text))
+unfolding readText
+read-is-walk text h = rw h (judged-read (least (faultsOf (length text) (linesOf text))) (formulaIn (linesOf text)) ∙ ap readJudged (written-is-walk text))

@@ -1,21 +1,23 @@
 -- The answer of `read` and the lent numbers afterwards, case by case.
 use Prim.Native.Nat.{ℕ, _+_, _≤_, _<_}
-use mathlib.Core.Path.{_≡_, refl, _∙_}
+use mathlib.Core.Path.{_≡_, refl, ap, _∙_}
 use mathlib.Core.List.{List, _++_}
 use native.Mathlib.Omega.{arith}
 use borrow.Author.Tests.{lt-ltb, le-ltb}
-use lib.ListN.{length, take, drop}
-use Rattle.book.specs.Formula.{Formula, literals}
+use lib.ListN.{length, take, drop, length-map}
+use Rattle.book.specs.Formula.{Formula, literals, maxBook}
 use Rattle.book.specs.Numbers.{numbersOf}
 use Rattle.book.specs.Text.{linesOf}
-use Rattle.book.specs.Reading.{Judged, refused, accepted, readText, maxText}
+use Rattle.book.specs.Reading.{asRead, readFormula, Judged, refused, accepted, readText, maxText}
 use Rattle.book.specs.Answer.{readAnswer, numbersAfter}
-use Rattle.book.specs.Inner.Walk.{walkLines}
+use Rattle.book.specs.Inner.Walk.{walkLines, readJudged}
 use Rattle.book.specs.Inner.Parse.{Read}
 use Rattle.book.specs.declared.Reading.{Reading}
 use Rattle.book.specs.declared.Reading.the-variants.{Book, Refused}
 use Rattle.book.proofs.ReadIsWalk.{read-is-walk}
-use Rattle.book.proofs.NumberLaws.{length-numbers}
+use Rattle.book.proofs.NumberLaws.{length-numbers, book-fits}
+use Rattle.book.proofs.WrittenLaws.{read-sound}
+use Rattle.book.proofs.WalkWithin.{lines-written}
 
 -- what is promised of an answer and of the lent numbers
 abbrev pub ReadAnswered : Judged → List ℕ → Reading → List ℕ → Type 0
@@ -34,23 +36,44 @@ module _ (judged : Judged) (formula : Formula) (is : judged ≡ accepted formula
       (numbersOf formula ++ drop (length (numbersOf formula)) buffer)
   answer-book h = rw (is, le-ltb (length buffer) (length (numbersOf formula)) h) (refl, refl)
 
--- a text that is not too long is what the walk says
-pub read-walked : (text : List ℕ) (judged : Judged) → length text ≤ maxText → walkLines (linesOf text) ≡ judged → readText text ≡ judged
-read-walked text judged h e = read-is-walk text (le-ltb maxText (length text) h) ∙ e
+-- a text that is not too long is what the walk says, as read
+read-walked : (text : List ℕ) (judged : Judged) → length text ≤ maxText → walkLines (linesOf text) ≡ judged → readText text ≡ readJudged judged
+read-walked text judged h e = read-is-walk text (le-ltb maxText (length text) h) ∙ ap readJudged e
 
-module _ {text numbers : List ℕ} {variables clauses total : ℕ} (r : Read text numbers variables clauses total) (short : length text ≤ maxText) (buffer : List ℕ) where
-  pub length-read : length (numbersOf (r .formula)) ≡ clauses + total + 4
-  length-read = length-numbers (r .formula) ∙ rw (r .same-clauses, r .same-literals)
+pub read-refused : (text : List ℕ) (number : ℕ) → length text ≤ maxText → walkLines (linesOf text) ≡ refused number → readText text ≡ refused number
+unfolding readJudged
+read-refused text number h e = read-walked text (refused number) h e
 
-  is-read : readText text ≡ accepted (r .formula)
-  is-read = read-walked text (accepted (r .formula)) short (r .is-accepted)
+-- the numbers of a book that was parsed are those of its formula as read
+module _ {text numbers : List ℕ} {variables clauses total : ℕ} (r : Read text numbers variables clauses total) where
+  abbrev formula : Formula
+  formula = readFormula (r .written)
 
-  pub read-short : length buffer < clauses + total + 4 → ReadAnswered (readText text) buffer (Refused 10) buffer
-  read-short h = answer-short (readText text) (r .formula) is-read buffer (omega (arith, length-read))
+  same-clauses : length (formula .clauses) ≡ clauses
+  unfolding readFormula
+  same-clauses = length-map (r .written .clauses) asRead ∙ r .same-clauses
 
-  -- the first n numbers are copied, as many as the book has
-  pub read-book : (n : ℕ) {after : List ℕ} → after ≡ take n numbers ++ drop n buffer → n ≡ clauses + total + 4 → n ≤ length buffer
-      → ReadAnswered (readText text) buffer (Book variables clauses total) after
-  read-book n copied e h =
-      rw (copied, e, r .front, ← length-read, ← (r .same-variables), ← (r .same-clauses), ← (r .same-literals))
-      (answer-book (readText text) (r .formula) is-read buffer (omega (arith, length-read)))
+  same-variables : formula .variables ≡ variables
+  unfolding readFormula
+  same-variables = r .same-variables
+
+  length-read : length (numbersOf formula) ≡ clauses + total + 4
+  length-read = length-numbers formula ∙ rw (same-clauses, r .same-literals)
+
+  pub book-within : clauses + total + 4 ≤ maxBook
+  book-within = omega (arith, length-read, book-fits formula (read-sound (r .written) (lines-written (linesOf text) (r .written) (r .is-accepted))))
+
+  module _ (short : length text ≤ maxText) (buffer : List ℕ) where
+    is-read : readText text ≡ accepted formula
+    unfolding readJudged
+    is-read = read-walked text (accepted (r .written)) short (r .is-accepted)
+
+    pub read-short : length buffer < clauses + total + 4 → ReadAnswered (readText text) buffer (Refused 10) buffer
+    read-short h = answer-short (readText text) formula is-read buffer (omega (arith, length-read))
+
+    -- the first n numbers are copied, as many as the book has
+    pub read-book : (n : ℕ) {after : List ℕ} → after ≡ take n numbers ++ drop n buffer → n ≡ clauses + total + 4 → n ≤ length buffer
+        → ReadAnswered (readText text) buffer (Book variables clauses total) after
+    read-book n copied e h =
+        rw (copied, e, ← length-read, r .front, ← same-variables, ← same-clauses, ← (r .same-literals))
+        (answer-book (readText text) formula is-read buffer (omega (arith, length-read)))

@@ -22,7 +22,6 @@ unfolding literalWithin
 literal-whole variables l low high = both (le-leb _ _ low) (le-leb _ _ high)
 
 pub record ClauseParts (variables : ℕ) (clause : List ℕ) : Type 0 where
-  pub filled : 1 ≤ length clause
   pub short : length clause ≤ maxClause
   pub within : all (literalWithin variables) clause ≡ true
   pub once : distinct (map variableOf clause) ≡ true
@@ -30,14 +29,13 @@ pub record ClauseParts (variables : ℕ) (clause : List ℕ) : Type 0 where
 pub clause-parts : (variables : ℕ) (clause : List ℕ) → soundClause variables clause ≡ true → ClauseParts variables clause
 unfolding soundClause
 clause-parts variables clause h =
-    let parts = and-five true (leb 1 (length clause)) (leb (length clause) maxClause) (all (literalWithin variables) clause)
-    (distinct (map variableOf clause)) h in
-    record { filled = leb-true _ _ (parts .1); short = leb-true _ _ (parts .2); within = parts .3; once = parts .4 }
+    let parts = and-five true true (leb (length clause) maxClause) (all (literalWithin variables) clause) (distinct (map variableOf clause)) h in
+    record { short = leb-true _ _ (parts .2); within = parts .3; once = parts .4 }
 
 pub clause-whole : (variables : ℕ) (clause : List ℕ) → ClauseParts variables clause → soundClause variables clause ≡ true
 unfolding soundClause
 clause-whole variables clause p =
-    and-last {a = true} (distinct (map variableOf clause)) refl (le-leb _ _ (p .filled)) (le-leb _ _ (p .short)) (p .within) ∙ p .once
+    and-last {a = true} {b = true} (distinct (map variableOf clause)) refl refl (le-leb _ _ (p .short)) (p .within) ∙ p .once
 
 -- each literal of a sound clause is one of the V variables
 pub clause-literal : (variables : ℕ) (clause : List ℕ) → ClauseParts variables clause → (i : ℕ) → i < length clause

@@ -23,21 +23,26 @@ pub record Limited (numbers : List ℕ) : Type 0 where
   pub literals : literalsOf numbers ≤ maxLiterals
 
 module _ (numbers : List ℕ) where
-  -- of parted numbers within the limits the clauses decide
-  pub clauses-decide : Parted numbers → Limited numbers
-      → wellFormed numbers ≡ all (soundClause (variablesOf numbers)) (clausesFrom numbers 0 (clausesOf numbers))
+  -- of parted numbers the formula that they hold decides
+  pub formula-decides : Parted numbers → wellFormed numbers ≡ sound (formulaOf numbers)
   unfolding wellFormed
-  clauses-decide parted limited =
-      let few : length (clausesFrom numbers 0 (clausesOf numbers)) ≤ maxClauses =
-      rw (clauses-counted numbers) (limited .clauses) in
-      let short : length (flat (clausesFrom numbers 0 (clausesOf numbers))) ≤ maxLiterals =
-      rw (length-literals numbers parted) (limited .literals) in
+  formula-decides parted =
       and-last
       (sound (formulaOf numbers))
       (le-leb _ _ (parted .long))
       (eq-eqb _ _ (parted .first))
       (eq-eqb _ _ (parted .last))
       (parted .rises)
+
+  -- and within the limits the clauses
+  pub clauses-decide : Parted numbers → Limited numbers
+      → wellFormed numbers ≡ all (soundClause (variablesOf numbers)) (clausesFrom numbers 0 (clausesOf numbers))
+  clauses-decide parted limited =
+      let few : length (clausesFrom numbers 0 (clausesOf numbers)) ≤ maxClauses =
+      rw (clauses-counted numbers) (limited .clauses) in
+      let short : length (flat (clausesFrom numbers 0 (clausesOf numbers))) ≤ maxLiterals =
+      rw (length-literals numbers parted) (limited .literals) in
+      formula-decides parted
       ∙ clauses-decide-sound (formulaOf numbers) (limited .some-variables) (limited .variables) few short
 
   module _ (well : wellFormed numbers ≡ true) where

@@ -1,10 +1,10 @@
--- The faults of a text: each of the table's numbers 2 to 9 with its place.
+-- The faults of a text: each of the table's numbers 2 to 6, 8 and 9 with its place; 7 is never given. Literals are counted as they are written.
 use Prim.Native.Nat.{ℕ, zero, suc}
 use mathlib.Core.Bool.{Bool, true, false, cond, not, _&&_, _||_}
 use mathlib.Core.List.{List, [], _∷_, _++_, map}
 use lib.Dec.{leb, ltb, eqb}
 use lib.ListN.{length}
-use Rattle.base.specs.Lists.{flat, empty, member}
+use Rattle.base.specs.Lists.{flat, empty}
 use Rattle.book.specs.Formula.{variableOf, maxVariables, maxClauses, maxLiterals, maxClause}
 use Rattle.book.specs.Text.{Piece, Token, literal, close, invalid, tokenOf, wordsOf, Header, header, malformed, headerOf}
 
@@ -53,12 +53,6 @@ wrongLength past (literal l) = eqb (length (opened past)) maxClause
 wrongLength past close = empty (opened past)
 wrongLength past invalid = false
 
--- Number 7: feature twice in one rule. The place is the feature's second standing in the rule.
-unfoldable pub repeated : List Token → Token → Bool
-repeated past (literal l) = member (variableOf l) (map variableOf (opened past))
-repeated past close = false
-repeated past invalid = false
-
 -- Number 8: rules unequal to C, or last 0 missing. The place is the literal or 0 that begins a surplus rule, or the end of the text.
 unfoldable pub surplus : ℕ → List Token → Token → Bool
 surplus clauses past (literal l) = empty (opened past) && leb clauses (closed past)
@@ -80,8 +74,7 @@ faultsAt variables clauses past place token =
     fault (notNumber token) place 4
     ++ (fault (overVariables variables token) place 5
     ++ (fault (wrongLength past token) place 6
-    ++ (fault (repeated past token) place 7
-    ++ (fault (surplus clauses past token) place 8 ++ fault (overLiterals past token) place 9))))
+    ++ (fault (surplus clauses past token) place 8 ++ fault (overLiterals past token) place 9)))
 
 -- the faults of the words behind the header, and of the end of the text
 unfoldable pub faultsFrom : ℕ → ℕ → ℕ → List Token → List Piece → List Fault

@@ -1,10 +1,10 @@
 -- Literals, clauses and formulas, and the limits that document 01 sets them.
 use Prim.Native.Nat.{ℕ, _+_, _*_, _/_}
-use mathlib.Core.Bool.{Bool, _&&_}
+use mathlib.Core.Bool.{Bool, cond, not, _&&_, _||_}
 use mathlib.Core.List.{List, map}
-use lib.Dec.{leb}
+use lib.Dec.{leb, eqb}
 use lib.ListN.{length}
-use Rattle.base.specs.Lists.{all, flat, distinct}
+use Rattle.base.specs.Lists.{all, any, flat, empty, distinct}
 
 -- A literal (the paper's literal) is 2 × its variable (feature), plus 1 if it is negative (barred); else it is positive (wanted).
 abbrev pub positive : ℕ → ℕ
@@ -20,6 +20,14 @@ variableOf literal = literal / 2
 pub record Formula : Type 0 where
   pub variables : ℕ
   pub clauses : List (List ℕ)
+
+-- A clause is met if one of its literals is true. One of no literals stands for a rule with a feature both ways, and is always met.
+unfoldable pub met : (ℕ → Bool) → List ℕ → Bool
+met isTrue clause = empty clause || any isTrue clause
+
+-- the value of a literal in a setting, which says of each variable whether it is true
+unfoldable pub trueIn : (ℕ → Bool) → ℕ → Bool
+trueIn setting l = cond (eqb l (positive (variableOf l))) (setting (variableOf l)) (not (setting (variableOf l)))
 
 -- the literals of all clauses; L is how many they are
 abbrev pub literals : Formula → List ℕ
@@ -45,11 +53,10 @@ maxBook = maxClauses + maxLiterals + 4
 unfoldable pub literalWithin : ℕ → ℕ → Bool
 literalWithin variables literal = leb 2 literal && leb literal (2 * variables + 1)
 
--- 1 to 255 literals of the V variables, no variable twice
+-- at most 255 literals of the V variables, no variable twice
 unfoldable pub soundClause : ℕ → List ℕ → Bool
 soundClause variables clause =
-    leb 1 (length clause)
-    && leb (length clause) maxClause
+    leb (length clause) maxClause
     && all (literalWithin variables) clause
     && distinct (map variableOf clause)
 

@@ -6,7 +6,7 @@ use lib.Dec.{leb, eqb}
 use lib.ListN.{length, getD, take, drop}
 use Rattle.book.specs.Formula.{Formula, literals, sound}
 
--- where each clause begins among the literal numbers, and where the last one ends
+-- where each clause begins among the literal numbers, and where the last one ends; a clause of no literals begins where the next one does
 unfoldable pub starts : ℕ → List (List ℕ) → List ℕ
 starts from [] = from ∷ []
 starts from (clause ∷ clauses) = from ∷ starts (from + length clause) clauses

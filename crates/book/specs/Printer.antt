@@ -4,8 +4,8 @@ use mathlib.Core.Bool.{cond}
 use mathlib.Core.List.{List, [], _∷_, _++_, map}
 use lib.Dec.{ltb, eqb}
 use lib.ListN.{length}
-use Rattle.base.specs.Lists.{flat}
-use Rattle.book.specs.Formula.{Formula, variableOf}
+use Rattle.base.specs.Lists.{flat, empty}
+use Rattle.book.specs.Formula.{Formula, positive, negative, variableOf}
 
 -- the decimal digits of a number that has at most so many
 unfoldable pub digits : ℕ → ℕ → List ℕ
@@ -24,8 +24,12 @@ unfoldable pub printClause : List ℕ → List ℕ
 printClause [] = 48 ∷ 10 ∷ []
 printClause (l ∷ ls) = printLiteral l ++ (32 ∷ printClause ls)
 
+-- a clause as a text can write it: one of no literals with variable 1 both ways
+unfoldable pub spelled : List ℕ → List ℕ
+spelled clause = cond (empty clause) (positive 1 ∷ negative 1 ∷ []) clause
+
 -- `p cnf V C`, and the clauses
 unfoldable pub printText : Formula → List ℕ
 printText formula =
     112 ∷ 32 ∷ 99 ∷ 110 ∷ 102 ∷ 32 ∷ (printNumber (formula .variables)
-    ++ (32 ∷ (printNumber (length (formula .clauses)) ++ (10 ∷ flat (map printClause (formula .clauses))))))
+    ++ (32 ∷ (printNumber (length (formula .clauses)) ++ (10 ∷ flat (map printClause (map spelled (formula .clauses)))))))

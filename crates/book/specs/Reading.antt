@@ -5,7 +5,8 @@ use mathlib.Core.List.{List, [], _∷_, map}
 use mathlib.Core.Option.{Option, none, some}
 use lib.Dec.{leb, ltb, eqb}
 use lib.ListN.{length}
-use Rattle.book.specs.Formula.{Formula}
+use Rattle.base.specs.Lists.{any, member, firsts}
+use Rattle.book.specs.Formula.{Formula, positive, negative, variableOf}
 use Rattle.book.specs.Text.{Piece, Token, literal, close, invalid, tokenOf, linesOf, Header, header, malformed, headerOf}
 use Rattle.book.specs.Faults.{Fault, faultsOf, bodyOf}
 
@@ -24,7 +25,7 @@ unfoldable pub least : List Fault → Option Fault
 least [] = none
 least (a ∷ faults) = earlier a (least faults)
 
--- the clauses that the words write, each closed by a 0
+-- the clauses as written by the words, each closed by a 0
 unfoldable pub onto : ℕ → List (List ℕ) → List (List ℕ)
 onto l [] = (l ∷ []) ∷ []
 onto l (clause ∷ clauses) = (l ∷ clause) ∷ clauses
@@ -35,7 +36,7 @@ clausesIn (literal l ∷ tokens) = onto l (clausesIn tokens)
 clausesIn (close ∷ tokens) = [] ∷ clausesIn tokens
 clausesIn (invalid ∷ tokens) = clausesIn tokens
 
--- the formula of a text without faults
+-- the formula of a text without faults, as written
 unfoldable pub formulaUnder : Header → List Token → Formula
 formulaUnder malformed tokens = record { variables = 0; clauses = [] }
 formulaUnder (header variables clauses) tokens = record { variables = variables; clauses = clausesIn tokens }
@@ -43,6 +44,18 @@ formulaUnder (header variables clauses) tokens = record { variables = variables;
 unfoldable pub formulaIn : List Piece → Formula
 formulaIn [] = record { variables = 0; clauses = [] }
 formulaIn (line ∷ lines) = formulaUnder (headerOf line) (map (λ (w : Piece). tokenOf (w .bytes)) (bodyOf lines))
+
+-- some variable of the clause stands both ways
+unfoldable pub bothWays : List ℕ → Bool
+bothWays clause = any (λ (l : ℕ). member (positive (variableOf l)) clause && member (negative (variableOf l)) clause) clause
+
+-- A repeated literal stands once, at its first place. A clause with a variable both ways is always met: it keeps its number and has no literals.
+unfoldable pub asRead : List ℕ → List ℕ
+asRead clause = cond (bothWays clause) [] (firsts clause)
+
+-- the formula as read
+unfoldable pub readFormula : Formula → Formula
+readFormula formula = record { variables = formula .variables; clauses = map asRead (formula .clauses) }
 
 -- What a text is: refused by a number of the table, or a formula.
 pub data Judged : Type 0 where
@@ -58,4 +71,4 @@ unfoldable pub readText : List ℕ → Judged
 readText text =
     cond (ltb maxText (length text))
     (refused 1)
-    (judged (least (faultsOf (length text) (linesOf text))) (formulaIn (linesOf text)))
+    (judged (least (faultsOf (length text) (linesOf text))) (readFormula (formulaIn (linesOf text))))

@@ -69,7 +69,7 @@ fn starts_rise(book: &[u32], clauses: usize) -> bool
     true
 }
 
-// The clause has 1 to 255 literals of the V variables, no variable twice. No variable bears the tag before.
+// The clause has at most 255 literals of the V variables, no variable twice. No variable bears the tag before.
 fn clause_sound(
     clause: &[u32],
     variables: usize,
@@ -81,9 +81,6 @@ fn clause_sound(
     ensures { λ r. ⌜ r ≡ soundClause variables (now (clause .entry)) ⌝ }
     ensures { λ r. ⌜ Bounded (now (marks .exit)) tag ⌝ }
 {
-    if clause.len() < 1 {
-        return false;
-    }
     if clause.len() > MAX_CLAUSE {
         return false;
     }

@@ -12,7 +12,7 @@ use Rattle.base.proofs.Bools.{alike, below}
 use Rattle.book.specs.Formula.{variableOf, literalWithin, positive, negative}
 use Rattle.run.specs.Trail.{Entry, opposite, place, literalAt, decisions, level, isTrue, variablesOn}
 use Rattle.book.proofs.SoundLaws.{literal-parts}
-use Rattle.run.proofs.Opposites.{OppositeCase, opposite-cases}
+use Rattle.run.proofs.Opposites.{OppositeCase, opposite-cases, opposite-positive}
 use Rattle.run.proofs.Trails.{PlaceCase, place-cases, place-new, place-old, place-within, place-true, place-untrue, consistent, newest-apart}
 use Rattle.run.proofs.Levels.{decided-count, level-cases, CountCase, LevelCase}
 use Rattle.layout.specs.Layout.{levelsAt, valuesAt, valueNumber, levelNumber, levelBefore}
@@ -232,9 +232,6 @@ decisions-within (e ∷ trail) = go (decided-count e trail) (decisions-within tr
     go : CountCase e trail → length (decisions trail) ≤ length trail → length (decisions (e ∷ trail)) ≤ suc (length trail)
     go (inl p) h = omega arith
     go (inr p) h = omega arith
-
-pub opposite-positive : (x : ℕ) → opposite (2 * x) ≡ 2 * x + 1
-opposite-positive x = ⊎-elim (λ p. p .1) (λ p. absurd (omega arith)) (opposite-cases (2 * x))
 
 -- an entry is that of the positive or of the negative literal, and the other one is not on the trail
 abbrev SignCase : List Entry → ℕ → ℕ → Type 0

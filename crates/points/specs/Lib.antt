@@ -1,2 +1,3 @@
--- The modules of `points`: the table of the marked points.
+-- The modules of `points`: the table of the marked points, and the points of each change request.
 pub mod Points
+pub mod K4

@@ -1,15 +1,15 @@
 -- The marked points of document 01 on text and run, as one table of equations that the definitions compute.
-use Prim.Native.Nat.{ℕ, zero, suc, _-_}
+use Prim.Native.Nat.{ℕ, zero, suc}
 use mathlib.Core.Path.{_≡_, refl}
 use mathlib.Core.Bool.{true, false}
 use mathlib.Core.List.{List, [], _∷_, _++_}
 use lib.ListN.{length, take}
-use Rattle.base.specs.Lists.{all, any, keep, flat, empty, member, distinct, same, begins, times, table, upTo, sum, without}
+use Rattle.base.specs.Lists.{all, any, keep, flat, empty, member, distinct, same, begins, times, table, upTo, sum, without, firsts}
 use Rattle.book.specs.Formula.{Formula, positive, negative, literalWithin, soundClause, sound}
 use Rattle.book.specs.Numbers.{starts, numbersOf, clausesFrom, rising, wellFormed}
 use Rattle.book.specs.Text.{blank, lineEnd, extend, split, notSkipped, linesOf, filled, wordsOf, decimal, isDigit, unsigned, unsignedToken, negativeToken, tokenOf, headed, headerIn, headerOf}
-use Rattle.book.specs.Faults.{fault, opened, closed, written, notNumber, overVariables, wrongLength, repeated, surplus, unfinished, overLiterals, faultsAt, faultsFrom, outside, bodyOf, faultsUnder, faultsOf}
-use Rattle.book.specs.Reading.{before, earlier, least, onto, clausesIn, formulaUnder, formulaIn, refused, accepted, judged, readText}
+use Rattle.book.specs.Faults.{fault, opened, closed, written, notNumber, overVariables, wrongLength, surplus, unfinished, overLiterals, faultsAt, faultsFrom, outside, bodyOf, faultsUnder, faultsOf}
+use Rattle.book.specs.Reading.{before, earlier, least, onto, clausesIn, formulaUnder, formulaIn, bothWays, asRead, readFormula, refused, accepted, judged, readText}
 use Rattle.book.specs.Printer.{digits, printNumber}
 use Rattle.run.specs.Trail.{Entry, opposite, place, literalAt, isTrue, decisions, level, lowered, cut}
 use Rattle.run.specs.Scan.{watched, next, oneMore, scanFrom, scan}
@@ -133,8 +133,8 @@ pub record MarkedPoints : Type 0 where
   pub variables-500 : readText (bytes "p cnf 500 0\n") ≡ accepted (noClauses 500)
   pub variables-501 : readText (bytes "p cnf 501 0\n") ≡ refused 3
   pub variables-0 : readText (bytes "p cnf 0 0\n") ≡ refused 3
-  -- `1 1 0` gives 7.
-  pub repeated-variable : readText (bytes "p cnf 1 1\n1 1 0\n") ≡ refused 7
+  -- `1 1 0` is read as a rule of one literal (K4; document 01 gave 7).
+  pub repeated-variable : readText (bytes "p cnf 1 1\n1 1 0\n") ≡ accepted (record { variables = 1; clauses = (positive 1 ∷ []) ∷ [] })
   -- Empty text gives 2.
   pub empty-text : readText (bytes "") ≡ refused 2
   -- C 0 opens with nothing forced.
@@ -203,7 +203,7 @@ pub record MarkedPoints : Type 0 where
   pub unhandled-open : refusal torn (decision (negative 2)) (reference torn (decision (negative 1) ∷ backtrackBy 1 ∷ [])) ≡ 0
 
 pub markedPoints : MarkedPoints
-unfolding scriptLines numbered backOf lineOf signed listed callWords impliedLine clauseLine backLine refusedLine endLine propagatedLine unlessRefused answerTo stepOf answersTo outputFor deskOutput trailBehind sum any distinct times table upTo soundClause sound starts numbersOf clausesFrom rising wellFormed valueNumber levelNumber nodeOf watchLiteral firstNode behind headNumber linkNumber watchNumber encode levelBefore heldTrail heldCells chainFrom heldLists held hasReason isJustified isWatching isGuarded watchesHold isFixpoint isConflict isListed isValid passes callRefusal readRefusal sessionBacktrackRefusal backtrackNumbers overwritten figuresAnswer all keep flat empty member same begins literalWithin blank lineEnd extend split notSkipped linesOf filled wordsOf decimal isDigit unsigned unsignedToken negativeToken tokenOf headed headerIn headerOf fault opened closed written notNumber overVariables wrongLength repeated surplus unfinished overLiterals faultsAt faultsFrom outside bodyOf faultsUnder faultsOf before earlier least onto clausesIn formulaUnder formulaIn judged readText digits opposite place literalAt isTrue decisions level lowered cut watched next oneMore scanFrom scan pushFront without takeOut addChecks otherWatch moved scannedAction action onTrail withWatches withConflict counted performAction visit readList propagateFrom firstCell watchAll fresh assignUnit assignUnits openRun decide backtrack decideRefusal backtrackRefusal refusal performCall step stepAll reference countAtLatest bytes counting positives reversed
+unfolding scriptLines numbered backOf lineOf signed listed callWords impliedLine clauseLine backLine refusedLine endLine propagatedLine unlessRefused answerTo stepOf answersTo outputFor deskOutput trailBehind sum any distinct times table upTo soundClause sound starts numbersOf clausesFrom rising wellFormed valueNumber levelNumber nodeOf watchLiteral firstNode behind headNumber linkNumber watchNumber encode levelBefore heldTrail heldCells chainFrom heldLists held hasReason isJustified isWatching isGuarded watchesHold isFixpoint isConflict isListed isValid passes callRefusal readRefusal sessionBacktrackRefusal backtrackNumbers overwritten figuresAnswer all keep flat empty member same begins literalWithin blank lineEnd extend split notSkipped linesOf filled wordsOf decimal isDigit unsigned unsignedToken negativeToken tokenOf headed headerIn headerOf fault opened closed written notNumber overVariables wrongLength surplus unfinished overLiterals faultsAt faultsFrom outside bodyOf faultsUnder faultsOf before earlier least onto clausesIn formulaUnder formulaIn bothWays asRead readFormula judged readText digits opposite place literalAt isTrue decisions level lowered cut watched next oneMore scanFrom scan pushFront without firsts takeOut addChecks otherWatch moved scannedAction action onTrail withWatches withConflict counted performAction visit readList propagateFrom firstCell watchAll fresh assignUnit assignUnits openRun decide backtrack decideRefusal backtrackRefusal refusal performCall step stepAll reference countAtLatest bytes counting positives reversed
 markedPoints =
     record {
       literals-255 = refl;

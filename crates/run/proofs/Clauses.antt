@@ -27,9 +27,6 @@ module _ (formula : Formula) (s : sound formula ≡ true) where
   parts : (c : ℕ) → c < length (formula .clauses) → ClauseParts (formula .variables) (clauseOf formula c)
   parts c h = clause-parts (formula .variables) (clauseOf formula c) (clause-of-sound formula s c h)
 
-  pub clause-nonempty : (c : ℕ) → c < length (formula .clauses) → 0 < size formula c
-  clause-nonempty c h = parts c h .filled
-
   -- at most 255 literals
   pub clause-short : (c : ℕ) → size formula c ≤ maxClause
   clause-short c = ⊎-elim (λ h. parts c (clause-exists formula c h) .short) (λ h. omega arith) (below 0 (size formula c))

@@ -17,7 +17,6 @@ use Rattle.run.specs.Run.{Run, clauseOf, size, cellOf, inConflict}
 use Rattle.run.specs.Valid.{Justified, WatchesHold, firstWatch, secondWatch, Watching, Valid}
 use Rattle.run.specs.Closure.{Closure, Closure.decided as in-force, Closure.implied as by-clause, UnitClosed, Contains, BothWays}
 use Rattle.run.proofs.Trails.{PlaceCase, true-place, place-true, place-untrue, place-new, place-cases, true-grows, consistent}
-use Rattle.run.proofs.Clauses.{clause-nonempty}
 use Rattle.run.proofs.WatchLists.{literals-differ}
 
 -- the closure is contained in every set that holds the decisions and is closed under the unit rule
@@ -166,7 +165,7 @@ module _ (formula : Formula) (s : sound formula ≡ true) (run : Run) (v : Valid
       forth (suc c) q e =
           let r = v .conflict-false c q in
           let l : ℕ = getD (clauseOf formula c) 0 0 in
-          let holds : member l (clauseOf formula c) ≡ true = member-at (clauseOf formula c) 0 (clause-nonempty formula s c (r .0)) in
+          let holds : member l (clauseOf formula c) ≡ true = member-at (clauseOf formula c) 0 (r .0) in
           let all-false : (m : ℕ) → member m (clauseOf formula c) ≡ true → Closure formula ds (opposite m)
           = λ m k. trail-closure formula (run .trail) (v .justified) (opposite m) (r .1 m k) in
           (l, by-clause c holds (λ m k n. all-false m k), all-false l holds)

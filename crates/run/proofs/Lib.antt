@@ -15,6 +15,7 @@ pub mod Visits
 pub mod Validity
 pub mod Opening
 pub mod ClosureLaws
+pub mod AsWritten
 pub mod MetLaws
 pub mod Theorems
 pub mod CeilingClause

@@ -4,17 +4,18 @@ use native.Mathlib.Omega.{arith}
 use mathlib.Core.Bool.{true, false}
 use mathlib.Core.Logic.{_⊎_, inl, inr}
 use mathlib.Core.Path.{_≡_, sym, ap, _∙_}
-use borrow.Author.Tests.{leb-true, leb-false}
-use lib.Dec.{leb}
-use lib.ListN.{length, getD}
-use Rattle.base.proofs.Bools.{true-or-false, never, either}
-use Rattle.base.proofs.ForAll.{any-at}
-use Rattle.book.specs.Formula.{Formula, positive, variableOf, sound}
+use borrow.Author.Tests.{eq-eqb}
+use lib.ListN.{getD}
+use Rattle.base.specs.Lists.{any, empty}
+use Rattle.base.proofs.Bools.{below, never, either}
+use Rattle.base.proofs.ForAll.{left-or, right-or, any-at}
+use Rattle.base.proofs.Lists.{empty-test}
+use Rattle.book.specs.Formula.{Formula, positive, variableOf, met, sound}
 use Rattle.book.proofs.SoundLaws.{literal-parts}
 use Rattle.run.specs.Trail.{opposite, isTrue, isFalse, isAssigned, isMet}
 use Rattle.run.specs.Run.{Run, clauseOf, size}
 use Rattle.run.specs.Valid.{WatchesHold, firstWatch, secondWatch, Valid}
-use Rattle.run.proofs.Clauses.{clause-nonempty, literal-within}
+use Rattle.run.proofs.Clauses.{literal-within}
 use Rattle.run.proofs.Opposites.{same-variable, opposite-opposite}
 
 module _ (formula : Formula) (s : sound formula ≡ true) (run : Run) (valid : Valid formula run) (quiet : run .conflict ≡ 0)
@@ -37,20 +38,22 @@ module _ (formula : Formula) (s : sound formula ≡ true) (run : Run) (valid : V
       go l f (inr t) (inl e) = absurd (never (ap (isFalse (run .trail)) (sym e) ∙ t) f)
       go l f (inr t) (inr e) = ap (isTrue (run .trail)) (sym (ap opposite e ∙ opposite-opposite l)) ∙ t
 
-  pub all-met : (c : ℕ) → c < length (formula .clauses) → isMet (run .trail) (clauseOf formula c) ≡ true
-  all-met c h = go (true-or-false (leb 2 (size formula c)))
+  pub all-met : (c : ℕ) → isMet (run .trail) (clauseOf formula c) ≡ true
+  unfolding met
+  all-met c = go (below 1 (size formula c)) (below 0 (size formula c))
     where
-      met : (i : ℕ) → i < size formula c → isTrue (run .trail) (getD (clauseOf formula c) i 0) ≡ true → isMet (run .trail) (clauseOf formula c) ≡ true
-      met i k t = any-at (isTrue (run .trail)) (clauseOf formula c) 0 i k t
+      met-at : (i : ℕ) → i < size formula c → isTrue (run .trail) (getD (clauseOf formula c) i 0) ≡ true → isMet (run .trail) (clauseOf formula c) ≡ true
+      met-at i k t = right-or (empty (clauseOf formula c)) (any-at (isTrue (run .trail)) (clauseOf formula c) 0 i k t)
+
+      always : size formula c ≡ 0 → isMet (run .trail) (clauseOf formula c) ≡ true
+      always z = left-or (any (isTrue (run .trail)) (clauseOf formula c)) (empty-test (clauseOf formula c) ∙ eq-eqb (size formula c) 0 z)
 
       watched : 2 ≤ size formula c → WatchesHold (run .trail) (firstWatch formula run c) (secondWatch formula run c) → isMet (run .trail) (clauseOf formula c) ≡ true
-      watched two (inl n) = let w = valid .watching c two .first-within in met _ w (not-false-true c _ w (n .0))
-      watched two (inr (inl g)) = met _ (valid .watching c two .second-within) (g .1)
-      watched two (inr (inr g)) = met _ (valid .watching c two .first-within) (g .1)
+      watched two (inl n) = let w = valid .watching c two .first-within in met-at _ w (not-false-true c _ w (n .0))
+      watched two (inr (inl g)) = met-at _ (valid .watching c two .second-within) (g .1)
+      watched two (inr (inr g)) = met-at _ (valid .watching c two .first-within) (g .1)
 
-      go : (leb 2 (size formula c) ≡ true) ⊎ (leb 2 (size formula c) ≡ false) → isMet (run .trail) (clauseOf formula c) ≡ true
-      go (inl big) = let two = leb-true 2 (size formula c) big in watched two (valid .fixpoint quiet .watches c two)
-      go (inr small) =
-          let some = clause-nonempty formula s c h in
-          let few = leb-false 2 (size formula c) small in
-          met 0 some (valid .fixpoint quiet .units-true c (omega arith))
+      go : (1 < size formula c) ⊎ (size formula c ≤ 1) → (0 < size formula c) ⊎ (size formula c ≤ 0) → isMet (run .trail) (clauseOf formula c) ≡ true
+      go (inl two) some = watched two (valid .fixpoint quiet .watches c two)
+      go (inr few) (inl some) = met-at 0 some (valid .fixpoint quiet .units-true c (omega arith))
+      go (inr few) (inr none) = always (omega arith)

@@ -229,7 +229,7 @@ module _ (formula : Formula) (s : sound formula ≡ true) (c : ℕ) (run : Run) 
         valid =
             structure-valid (record { watched = o .structure .watched; trailed = o .structure .trailed; counted = o .structure .counted })
             (λ z. absurd (omega arith))
-            (λ d z. rw (same d z) (clause-exists formula c (omega arith), λ m k. rw (only clause one m k) f))
+            (λ d z. rw (same d z) (omega arith, λ m k. rw (only clause one m k) f))
             (λ d z some. absurd (omega (arith, o .undecided)));
         loud = rw (ne-eqb (suc c) 0 (λ z. omega arith));
       }

@@ -7,7 +7,7 @@ use mathlib.Core.Path.{_≡_, refl, sym, ap, _∙_}
 use borrow.Author.Tests.{eqb-true, eqb-false}
 use lib.Dec.{eqb}
 use Rattle.base.proofs.Bools.{alike}
-use Rattle.book.specs.Formula.{variableOf}
+use Rattle.book.specs.Formula.{positive, negative, variableOf}
 use Rattle.run.specs.Trail.{opposite}
 
 -- the opposite: another literal of the same variable, whose opposite is the literal itself
@@ -22,6 +22,9 @@ opposite-cases l = go (eqb (l % 2) 0) refl
         → ((l % 2 ≡ 0) × (cond b (l + 1) (l - 1) ≡ l + 1)) ⊎ ((l % 2 ≡ 1) × (cond b (l + 1) (l - 1) ≡ l - 1))
     go true e = inl (eqb-true (l % 2) 0 e, refl)
     go false e = inr (let n : l % 2 ≡ 0 → ⊥ = eqb-false (l % 2) 0 e in omega arith, refl)
+
+pub opposite-positive : (v : ℕ) → opposite (positive v) ≡ negative v
+opposite-positive v = ⊎-elim (λ p. p .1) (λ p. absurd (omega arith)) (opposite-cases (positive v))
 
 pub opposite-opposite : (l : ℕ) → opposite (opposite l) ≡ l
 opposite-opposite l = go (opposite-cases l) (opposite-cases (opposite l))

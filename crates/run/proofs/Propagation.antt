@@ -198,7 +198,7 @@ trailed-push {formula} {trail} e t w off off′ reason =
 pub structure-valid : {formula : Formula} {run : Run} → Structure formula run
     → (run .conflict ≡ 0 → Fixpoint formula run (run .trail))
     → ((c : ℕ) → run .conflict ≡ suc c
-    → (c < length (formula .clauses)) × ((m : ℕ) → member m (clauseOf formula c) ≡ true → isFalse (run .trail) m ≡ true))
+    → (0 < size formula c) × ((m : ℕ) → member m (clauseOf formula c) ≡ true → isFalse (run .trail) m ≡ true))
     → ((c : ℕ) → run .conflict ≡ suc c → 0 < length (decisions (run .trail)) → Fixpoint formula run (lowered (run .trail)))
     → Valid formula run
 structure-valid s fixpoint conflict-false fixpoint-below =

@@ -1,4 +1,4 @@
--- Induction over a reference run: what every step of a run keeps holds of the run of every list of calls.
+-- Induction over a list of calls: what every step of a run keeps holds of every run that calls lead to.
 use Prim.Native.Nat.{ℕ, suc, _<_}
 use native.Mathlib.Omega.{arith}
 use mathlib.Core.Path.{_≡_, refl}
@@ -25,7 +25,6 @@ use Rattle.run.proofs.Theorems.{open-valid, decide-valid, backtrack-val
 
 -- What every step keeps of a run, in a period that began with a count of clause c.
 pub record Keeps (formula : Formula) (c : ℕ) (K : ℕ → Run → Type 0) : Type 0 where
-  pub at-fresh : K 0 (fresh formula)
   pub at-literal : (before l : ℕ) (decided : Bool) (run : Run) → K before run → K before (onTrail l decided run)
   pub at-unit-conflict : (before d : ℕ) (run : Run) → K before run → K before (withConflict (suc d) run)
   pub at-visit : (before q d : ℕ) (run : Run) → inConflict run ≡ false → Structure formula run → Seen formula q d run → K before run
@@ -110,7 +109,7 @@ module _ (formula : Formula) (ok : sound formula ≡ true) (c : ℕ) (K : ℕ �
       go false later = later
 
   -- every call keeps it
-  calls-keep : (calls : List Call) (before : ℕ) (run : Run) → Valid formula run → K before run
+  pub calls-keep : (calls : List Call) (before : ℕ) (run : Run) → Valid formula run → K before run
       → K (countAtLatest formula c before run calls) (stepAll formula run calls)
   unfolding countAtLatest stepAll step refusal performCall
   calls-keep [] before run v k = k
@@ -136,11 +135,11 @@ module _ (formula : Formula) (ok : sound formula ≡ true) (c : ℕ) (K : ℕ �
           later (checksOf run c) (backtrack m run) (backtrack-valid formula m run ok v accepted) (keeps .at-backtrack before m run v accepted k)
       go false e later = later before run v k
 
-  pub reference-keeps : (calls : List Call) → K (countBefore formula c calls) (reference formula calls)
+  pub reference-keeps : K 0 (fresh formula) → (calls : List Call) → K (countBefore formula c calls) (reference formula calls)
   unfolding openRun reference
-  reference-keeps calls =
+  reference-keeps first calls =
       calls-keep calls 0 (openRun formula) (open-valid formula ok)
-      (propagate-keeps 0 0 units (opening-state formula ok) (units-keep 0 (formula .clauses) (fresh formula) (keeps .at-fresh)))
+      (propagate-keeps 0 0 units (opening-state formula ok) (units-keep 0 (formula .clauses) (fresh formula) first))
     where
       units : Run
       units = assignUnits 0 (formula .clauses) (fresh formula)

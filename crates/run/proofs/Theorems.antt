@@ -5,15 +5,16 @@ use mathlib.Core.Bool.{Bool, true, false, cond, not}
 use mathlib.Core.List.{List, [], _∷_, _++_}
 use mathlib.Core.Logic.{inl, _↔_}
 use mathlib.Core.Path.{_≡_, refl, sym, ap, _∙_}
-use borrow.Author.Tests.{eqb-true, ne-eqb}
+use borrow.Author.Tests.{eqb-true, ne-eqb, lt-leb}
 use lib.Dec.{eqb}
 use lib.ListN.{length, getD, drop}
-use Rattle.base.specs.Lists.{all, member, distinct}
-use Rattle.base.proofs.Bools.{never, same-test}
+use Rattle.base.specs.Lists.{all, member, distinct, times}
+use Rattle.base.proofs.Bools.{never, same-test, refuted}
+use Rattle.base.proofs.ForAll.{member-times}
 use Rattle.book.specs.Formula.{Formula, positive, sound}
 use Rattle.run.specs.Trail.{Entry, place, isTrue, isFalse, isAssigned, isMet, variablesOn, decisions, cut}
 use Rattle.run.specs.Scan.{Cell}
-use Rattle.run.specs.Run.{Run, clauseOf, Action, moves, action, onTrail, inConflict, propagateFrom, fresh, assignUnits, openRun, decide, backtrack}
+use Rattle.run.specs.Run.{Run, clauseOf, size, noCell, cellOf, listOf, Action, moves, action, onTrail, inConflict, propagateFrom, fresh, assignUnits, openRun, decide, backtrack}
 use Rattle.run.specs.Calls.{Call, decision, backtrackBy, decideRefusal, backtrackRefusal, refusal, performCall, step, stepAll, reference}
 use Rattle.run.specs.Valid.{Valid}
 use Rattle.run.specs.Closure.{Closure, UnitClosed, Contains, BothWays}
@@ -85,14 +86,25 @@ pub conflict-is-both-ways : (formula : Formula) (run : Run) → sound formula �
 conflict-is-both-ways formula run s v = conflict-both-ways formula s run v
 
 pub conflict-clause-false : (formula : Formula) (run : Run) → Valid formula run → (c : ℕ) → run .conflict ≡ suc c
-    → (m : ℕ) → member m (clauseOf formula c) ≡ true → isFalse (run .trail) m ≡ true
-conflict-clause-false formula run v c e = v .conflict-false c e .1
+    → (0 < size formula c) × ((m : ℕ) → member m (clauseOf formula c) ≡ true → isFalse (run .trail) m ≡ true)
+conflict-clause-false formula run v c e = v .conflict-false c e
+
+-- A clause of no literals, which is always met, watches nothing, stands in no list and is never the conflict clause.
+pub always-met-idle : (formula : Formula) (run : Run) → Valid formula run → (c : ℕ) → size formula c ≡ 0
+    → (cellOf run c ≡ noCell) × ((l : ℕ) → member c (listOf (run .lists) l) ≡ false)
+always-met-idle formula run v c z =
+    let few : size formula c < 2 = omega arith in
+    let nowhere : (l : ℕ) → times c (listOf (run .lists) l) ≡ 0 = λ l. rw (v .listed l c, lt-leb 2 (size formula c) few) in
+    (v .unwatched c few, λ l. refuted (member c (listOf (run .lists) l)) (λ m. omega (arith, nowhere l, member-times c (listOf (run .lists) l) m)))
+
+pub always-met-never-named : (formula : Formula) (run : Run) → Valid formula run → (c : ℕ) → size formula c ≡ 0 → run .conflict ≡ suc c → ⊥
+always-met-never-named formula run v c z e = let some = v .conflict-false c e .0 in omega arith
 
 -- Out of conflict with no variable open every clause is met.
 pub nothing-open-all-met : (formula : Formula) (run : Run) → sound formula ≡ true → Valid formula run → run .conflict ≡ 0
     → ((x : ℕ) → 1 ≤ x → x ≤ formula .variables → isAssigned (run .trail) (positive x) ≡ true)
     → (c : ℕ) → c < length (formula .clauses) → isMet (run .trail) (clauseOf formula c) ≡ true
-nothing-open-all-met formula run s v quiet none-open = all-met formula s run v quiet none-open
+nothing-open-all-met formula run s v quiet none-open c h = all-met formula s run v quiet none-open c
 
 -- An opening makes no decision, and a decision one.
 open-grown : (formula : Formula) → Grown [] (openRun formula .trail)

@@ -20,7 +20,7 @@ use Rattle.run.specs.Valid.{Reason, Watching}
 use Rattle.run.specs.Progress.{Watched, BothGuardedAt, BothGuarded, Ended, ReadingList}
 use Rattle.run.proofs.ScanLaws.{pointer-within, scan-found, scan-none}
 use Rattle.run.proofs.Trails.{true-place, place-true, untrue-place, place-untrue, place-new, place-old, place-within, place-injective, consistent}
-use Rattle.run.proofs.Clauses.{clause-exists, literal-within}
+use Rattle.run.proofs.Clauses.{literal-within}
 use Rattle.run.proofs.Actions.{Case, staying, moving, implying, conflicting, action-case}
 use Rattle.run.proofs.WatchLists.{Sides, Order, forth, back, apart-unwatched, listed-size, listed-sides, listed-once, sides-differ, moved-times, moved-watched, cell-after, cell-others}
 use Rattle.run.proofs.Propagation.{guarded-swap, old-stays, guarded-push, pending-push, propagation, pending-lowered, structure-valid, checks-added, trailed-push}
@@ -329,7 +329,7 @@ module _ (formula : Formula) (s : sound formula ≡ true) (handled q c : ℕ) (u
               counted = checks-added c made (r .going .structure .counted);
             })
             (λ z. absurd (omega arith))
-            (λ d z. rw (same d z) (clause-exists formula c (omega (arith, here .two)), clause-false))
+            (λ d z. rw (same d z) (omega (arith, here .two), clause-false))
             (λ d z some. propagation (performAction formula q c (conflicts made) run) (pending-lowered once some (r .going .pending)) (omega arith));
         loud = rw (ne-eqb (suc c) 0 (λ z. omega arith));
       }

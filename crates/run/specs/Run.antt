@@ -22,7 +22,7 @@ pub record Run : Type 0 where
 abbrev pub clauseOf : Formula → ℕ → List ℕ
 clauseOf formula c = getD (formula .clauses) c []
 
--- n, the number of a clause's literals; 0 where there is no clause c
+-- n, the number of a clause's literals; 0 also where there is no clause c
 abbrev pub size : Formula → ℕ → ℕ
 size formula c = length (clauseOf formula c)
 

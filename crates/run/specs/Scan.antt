@@ -7,7 +7,7 @@ use lib.Dec.{ltb, eqb}
 use lib.ListN.{length, getD}
 use Rattle.run.specs.Trail.{Entry, isFalse}
 
--- What a clause of n ≥ 2 has: the positions of its two watches, and its pointer. A clause of one literal has 0 in each.
+-- What a clause of n ≥ 2 has: the positions of its two watches, and its pointer. A clause of one literal or of none has 0 in each.
 pub record Cell : Type 0 where
   pub first : ℕ
   pub second : ℕ

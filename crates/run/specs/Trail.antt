@@ -4,8 +4,7 @@ use mathlib.Core.Bool.{Bool, cond, not, _||_}
 use mathlib.Core.List.{List, [], _∷_, map}
 use lib.Dec.{eqb}
 use lib.ListN.{length}
-use Rattle.base.specs.Lists.{any}
-use Rattle.book.specs.Formula.{variableOf}
+use Rattle.book.specs.Formula.{variableOf, met}
 
 -- the literal of the same variable with the other sign
 unfoldable pub opposite : ℕ → ℕ
@@ -36,9 +35,9 @@ isFalse trail l = isTrue trail (opposite l)
 abbrev pub isAssigned : List Entry → ℕ → Bool
 isAssigned trail l = isTrue trail l || isFalse trail l
 
--- A clause (the paper's rule) is met if one of its literals is true.
+-- a clause (the paper's rule) is met on a trail: one of its literals is true, or it has none and is always met
 abbrev pub isMet : List Entry → List ℕ → Bool
-isMet trail clause = any (isTrue trail) clause
+isMet trail clause = met (isTrue trail) clause
 
 -- the variables on a trail
 abbrev pub variablesOn : List Entry → List ℕ

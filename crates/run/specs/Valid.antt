@@ -54,7 +54,7 @@ abbrev pub WatchesHold : List Entry → ℕ → ℕ → Type 0
 WatchesHold trail a b =
     ((isFalse trail a ≡ false) × (isFalse trail b ≡ false)) ⊎ (Guarded trail a b ⊎ Guarded trail b a)
 
--- what a trail keeps out of conflict: clauses of one literal are true at level 0, and the watches of the others hold
+-- what a trail keeps out of conflict: clauses of one literal are true at level 0, and the watches of longer ones hold
 pub record Fixpoint (formula : Formula) (run : Run) (trail : List Entry) : Type 0 where
   pub units-true : (c : ℕ) → size formula c ≡ 1 → isTrue trail (getD (clauseOf formula c) 0 0) ≡ true
   pub units-level : (c : ℕ) → size formula c ≡ 1 → level trail (getD (clauseOf formula c) 0 0) ≡ 0
@@ -73,9 +73,9 @@ pub record Valid (formula : Formula) (run : Run) : Type 0 where
   pub justified : Justified formula (run .trail)
   pub watching : (c : ℕ) → 2 ≤ size formula c → Watching (size formula c) (cellOf run c)
   pub unwatched : (c : ℕ) → size formula c < 2 → cellOf run c ≡ noCell
-  -- each clause of n ≥ 2 stands once in each watch's list and in no other, a clause of one literal in none
+  -- each clause of n ≥ 2 stands once in each watch's list and in no other, a clause of one literal or of none in no list
   pub listed : (l c : ℕ) → times c (listOf (run .lists) l) ≡ standing formula run l c
   pub fixpoint : run .conflict ≡ 0 → Fixpoint formula run (run .trail)
-  -- in conflict the conflict clause is all false, and the rest holds for the trail without its top level, if it has one
-  pub conflict-false : (c : ℕ) → run .conflict ≡ suc c → (c < length (formula .clauses)) × ((m : ℕ) → member m (clauseOf formula c) ≡ true → isFalse (run .trail) m ≡ true)
+  -- in conflict the conflict clause has a literal and is all false, and the rest holds for the trail without its top level, if it has one
+  pub conflict-false : (c : ℕ) → run .conflict ≡ suc c → (0 < size formula c) × ((m : ℕ) → member m (clauseOf formula c) ≡ true → isFalse (run .trail) m ≡ true)
   pub fixpoint-below : (c : ℕ) → run .conflict ≡ suc c → 0 < length (decisions (run .trail)) → Fixpoint formula run (lowered (run .trail))

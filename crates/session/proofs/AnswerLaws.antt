@@ -1,5 +1,5 @@
 -- Decision, backtrack, lookup and what only reads, way out by way out: the refusals in their order, and what an accepted call answers and leaves.
-use Rattle.layout.proofs.TrailLaws.{opposite-positive}
+use Rattle.run.proofs.Opposites.{opposite-positive}
 use Rattle.layout.specs.Layout.{lengthAt, decisionsAt, conflictAt, backtracksAt, requiredLength, held}
 use Rattle.book.specs.Formula.{maxVariables, literalWithin}
 use Rattle.session.proofs.PassedLaws.{refused-first, none-first, well, own-refusal, facts, holding, long, conflict-is, decisions-are, count-is, count-within, backtracks-are}

@@ -5,4 +5,5 @@ pub mod PassedLaws
 pub mod AnswerLaws
 pub mod ReportLaws
 pub mod Statements
+pub mod TextLaws
 pub mod ReplayLaws

@@ -16,7 +16,7 @@ use Rattle.base.proofs.Tables.{getD-table, length-table}
 use Rattle.book.specs.Formula.{Formula, sound}
 use Rattle.book.specs.Numbers.{formulaOf}
 use Rattle.run.specs.Trail.{Entry, place, literalAt, isTrue, isFalse, variablesOn, decisions}
-use Rattle.run.specs.Run.{Run, clauseOf, inConflict, trailBehind, openRun, decide}
+use Rattle.run.specs.Run.{Run, clauseOf, size, inConflict, trailBehind, openRun, decide}
 use Rattle.run.specs.Calls.{decideRefusal}
 use Rattle.run.specs.Closure.{Closure, BothWays}
 use Rattle.run.specs.Valid.{Valid}
@@ -97,7 +97,7 @@ module _ (book : List ℕ) (s : sound (formulaOf book) ≡ true) (run : Run) (va
   unfolding propagatedAnswer
   answers-implied e = rw e
 
-  pub reported : Reported book ds Before run (propagatedAnswer before run)
+  pub reported : Reported (formulaOf book) ds Before run (propagatedAnswer before run)
   reported =
       record {
         conflicts = (λ k. both-ways .0 (loud (k .0) (k .1) .0), λ b. (run .conflict, answers-conflict (both-ways .1 b)));
@@ -106,7 +106,7 @@ module _ (book : List ℕ) (s : sound (formulaOf book) ≡ true) (run : Run) (va
       }
     where
       by-name : (name : ℕ) → run .conflict ≡ name → (k : ℕ) → run .conflict ≡ k → inConflict run ≡ true
-          → (c : ℕ) × (name ≡ suc c) × (c < length (formula .clauses)) × ((m : ℕ) → member m (clauseOf formula c) ≡ true → isFalse (run .trail) m ≡ true)
+          → (c : ℕ) × (name ≡ suc c) × (0 < size formula c) × ((m : ℕ) → member m (clauseOf formula c) ≡ true → isFalse (run .trail) m ≡ true)
       by-name name e zero q l = absurd (never l (rw (eq-eqb (run .conflict) 0 q)))
       by-name name e (suc c) q l = let f = valid .conflict-false c q in (c, sym e ∙ q, f .0, f .1)
 
@@ -133,14 +133,14 @@ module _ (book : List ℕ) (s : sound (formulaOf book) ≡ true) (run : Run) (va
           closed e l = rw (← in-force) (assigned-is-closure formula run s valid (quiet e) l)
 
 module _ (book : List ℕ) (s : sound (formulaOf book) ≡ true) where
-  pub open-run-reported : Reported book [] (λ l. ⊥) (openRun (formulaOf book)) (propagatedAnswer 0 (openRun (formulaOf book)))
+  pub open-run-reported : Reported (formulaOf book) [] (λ l. ⊥) (openRun (formulaOf book)) (propagatedAnswer 0 (openRun (formulaOf book)))
   open-run-reported =
       let run : Run = openRun (formulaOf book) in
       reported book s run (open-valid (formulaOf book) s) [] (open-undecided (formulaOf book)) 0 (omega arith) (λ l. ⊥)
       (λ m. (λ h. (place-true (run .trail) m h, λ x. x), λ k. true-place (run .trail) m (k .0)))
 
   pub decide-run-reported : (l : ℕ) (run : Run) → Valid (formulaOf book) run → decideRefusal (formulaOf book) l run ≡ 0
-      → Reported book (l ∷ decisions (run .trail)) (λ m. (m ≡ l) ⊎ Closure (formulaOf book) (decisions (run .trail)) m)
+      → Reported (formulaOf book) (l ∷ decisions (run .trail)) (λ m. (m ≡ l) ⊎ Closure (formulaOf book) (decisions (run .trail)) m)
       (decide (formulaOf book) l run) (propagatedAnswer (suc (length (run .trail))) (decide (formulaOf book) l run))
   decide-run-reported l run valid z =
       let next = decide-valid (formulaOf book) l run s valid z in

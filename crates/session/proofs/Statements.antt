@@ -1,25 +1,26 @@
 -- Statements 2 and 3 of the service description, proved of the outcomes that the contracts cite.
-use Prim.Native.Nat.{ℕ, _≤_, _<_}
+use Prim.Native.Nat.{ℕ, suc, _≤_, _<_}
 use mathlib.Core.Path.{_≡_, refl, ap, sym, _∙_}
 use mathlib.Core.Bool.{Bool, true, false, cond, _&&_, _||_}
 use mathlib.Core.Logic.{_↔_}
-use mathlib.Core.List.{List, []}
+use mathlib.Core.List.{List, [], _∷_}
 use native.Mathlib.Omega.{arith}
 use borrow.Author.Tests.{le-leb}
 use lib.Dec.{leb}
 use lib.ListN.{length}
 use Rattle.base.proofs.Bools.{never}
-use Rattle.base.specs.Lists.{sum}
+use Rattle.base.specs.Lists.{member, sum}
 use Rattle.book.specs.Formula.{positive, negative}
 use Rattle.book.specs.Numbers.{wellFormed, formulaOf, variablesOf, clausesOf}
 use Rattle.book.proofs.WellFormedLaws.{well-formed-sound}
 use Rattle.run.specs.Trail.{Entry, place, isTrue, isAssigned, isMet}
 use Rattle.run.proofs.Trails.{true-place, place-untrue, consistent}
-use Rattle.run.specs.Run.{Run, clauseOf, openRun, decide, backtrack}
-use Rattle.run.specs.Calls.{Call, backtrackBy, backtrackRefusal, refusal, performCall, step, reference}
+use Rattle.run.specs.Run.{Run, clauseOf, size, noCell, cellOf, listOf, openRun, decide, backtrack}
+use Rattle.run.specs.Calls.{Call, backtrackBy, backtrackRefusal, refusal, performCall, step, stepAll, reference}
+use Rattle.run.specs.Ceiling.{checksOf}
 use Rattle.run.specs.Valid.{Valid}
-use Rattle.run.proofs.Theorems.{open-valid, decide-valid, backtrack-valid, step-valid, reference-valid, assigned-is-closure, conflict-is-both-ways, conflict-clause-false, backtrack-keeps, nothing-open-all-met}
-use Rattle.run.proofs.Ceiling.{ceiling-in-period, ceiling-in-all, checks-by-period, counts-never-saturate, units-cost-nothing}
+use Rattle.run.proofs.Theorems.{open-valid, decide-valid, backtrack-valid, step-valid, reference-valid, assigned-is-closure, conflict-is-both-ways, conflict-clause-false, always-met-idle, always-met-never-named, backtrack-keeps, nothing-open-all-met}
+use Rattle.run.proofs.Ceiling.{ceiling-in-period, ceiling-in-all, checks-by-period, counts-never-saturate, unscanned-cost-nothing, unscanned-count}
 use Rattle.layout.specs.Layout.{requiredLength, maxSession, held}
 use Rattle.session.specs.Outcomes.{outcome, countOf, overwritten, requiredAnswer, totalAnswer, openAnswer, openNumbers, openRefusal, sessionDecideRefusal, decideAnswer, decideNumbers, backtrackNumbers, lookupRefusal, lookupAnswer, callNumbers, replayNumbers}
 use Rattle.validation.specs.Validation.{readRefusal}
@@ -27,7 +28,7 @@ use Rattle.session.specs.Statement.{Statement2, OpenReported, DecideRepo
 use Rattle.session.specs.declared.Sum.the-variants.{Checks}
 use Rattle.session.specs.declared.Assigned.the-variants.{Open, Positive, Negative}
 use Rattle.session.specs.declared.Count.the-variants.{Of}
-use Rattle.layout.proofs.TrailLaws.{opposite-positive}
+use Rattle.run.proofs.Opposites.{opposite-positive}
 use Rattle.layout.proofs.FitsLaws.{required-most}
 use Rattle.layout.proofs.EncodeLaws.{encodes-whole}
 use Rattle.session.proofs.CallLaws.{held-overwritten, passes-overwritten, call-refusal, call-numbers, open-accepted, replayed}
@@ -100,6 +101,16 @@ statement-2 book session e =
           (λ a. closed .0 (shows .0 a), λ k. shows .1 (closed .1 k));
     }
 
+-- A clause of no literals, which is always met, watches nothing, stands in no list and is never named: a lent session that has it otherwise fails.
+pub always-met-clause : (book session : List ℕ) → readRefusal book session ≡ 0 → (c : ℕ) → size (formulaOf book) c ≡ 0
+    → let run = held (formulaOf book) session in
+    (cellOf run c ≡ noCell) × ((l : ℕ) → member c (listOf (run .lists) l) ≡ false) × (run .conflict ≡ suc c → ⊥)
+always-met-clause book session e c none =
+    let valid = facts book session (sym e) .0 in
+    let run = held (formulaOf book) session in
+    let idle = always-met-idle (formulaOf book) run valid c none in
+    (idle .0, idle .1, always-met-never-named (formulaOf book) run valid c none)
+
 -- valid in, valid out: statement 2 holds after every accepted opening on any lent numbers, and after every call, refused or not
 pub open-passes : (book buffer : List ℕ) → openRefusal book (length buffer) ≡ 0 → readRefusal book (openNumbers book buffer) ≡ 0
 unfolding openNumbers readRefusal
@@ -115,16 +126,33 @@ module _ (book session : List ℕ) (e : readRefusal book session ≡ 0) where
       encodes-whole (formulaOf book) (well-formed-sound book (well book session (sym e))) (held (formulaOf book) session)
       (facts book session (sym e) .0) session (facts book session (sym e) .1)
 
+  abbrev run : Run
+  run = held (formulaOf book) session
+
+  ok : wellFormed book ≡ true
+  ok = well book session (sym e)
+
+  valid : Valid (formulaOf book) run
+  valid = facts book session (sym e) .0
+
+  -- a call leaves the numbers of the run's next step
+  next-numbers : (call : Call) → callNumbers book session call ≡ overwritten (formulaOf book) (step (formulaOf book) run call) session
+  next-numbers call = ap (λ (numbers : List ℕ). callNumbers book numbers call) whole ∙ call-numbers book session ok run valid call
+
+  next-valid : (call : Call) → Valid (formulaOf book) (step (formulaOf book) run call)
+  next-valid call = step-valid (formulaOf book) run (well-formed-sound book ok) call valid
+
   pub call-passes : (call : Call) → readRefusal book (callNumbers book session call) ≡ 0
   unfolding readRefusal
-  call-passes call =
-      let ok = well book session (sym e) in
-      let run = held (formulaOf book) session in
-      let valid = facts book session (sym e) .0 in
-      let next : callNumbers book session call ≡ overwritten (formulaOf book) (step (formulaOf book) run call) session =
-      ap (λ (numbers : List ℕ). callNumbers book numbers call) whole ∙ call-numbers book session ok run valid call in
-      rw next
-      (call-refusal book session ok (step (formulaOf book) run call) (step-valid (formulaOf book) run (well-formed-sound book ok) call valid) (λ (r : Run). 0))
+  call-passes call = rw (next-numbers call) (call-refusal book session ok (step (formulaOf book) run call) (next-valid call) (λ (r : Run). 0))
+
+  -- it costs nothing to a clause of one literal or of none, whatever count is lent for it
+  pub call-unscanned : (call : Call) (c : ℕ) → size (formulaOf book) c < 2
+      → checksOf (held (formulaOf book) (callNumbers book session call)) c ≡ checksOf run c
+  unfolding stepAll
+  call-unscanned call c few =
+      ap (λ (r : Run). checksOf r c) (ap (held (formulaOf book)) (next-numbers call) ∙ held-overwritten book session ok (step (formulaOf book) run call) (next-valid call))
+      ∙ unscanned-count (formulaOf book) (well-formed-sound book ok) run valid (call ∷ []) c few
 
 total-after : (book buffer : List ℕ) → wellFormed book ≡ true → (run : Run) → Valid (formulaOf book) run
     → totalAnswer book (overwritten (formulaOf book) run buffer) ≡ Checks (sum (run .checks))
@@ -209,7 +237,7 @@ statement-3 book buffer calls left same e =
       periods = checks-by-period (formulaOf book) s calls;
       in-period = ceiling-in-period (formulaOf book) s calls;
       in-all = ceiling-in-all (formulaOf book) s calls;
-      units = λ c u. units-cost-nothing (formulaOf book) s calls c (omega arith);
+      unscanned = unscanned-cost-nothing (formulaOf book) s calls;
       backtrack-moves-nothing = λ k z.
           rw (ap (λ (numbers : List ℕ). held (formulaOf book) (backtrackNumbers book numbers k)) is ∙ backtrack-after book buffer ok run valid k z)
           (let kept = backtrack-keeps k run in (kept .1, kept .2, kept .3));

@@ -21,18 +21,15 @@ use Rattle.session.specs.declared.Answer.the-variants.{Implied, Conflict
 use Rattle.session.specs.declared.Assigned.the-variants.{Positive, Negative}
 use Rattle.session.specs.declared.Sum.the-variants.{Checks}
 
-module _ (book : List ℕ) where
-  abbrev formula : Formula
-  formula = formulaOf book
-
+module _ (formula : Formula) where
   -- What an opening or a decision that is accepted reports: by the decisions then in force, what was true before it implied anything, and
   -- the run that the session then holds.
   pub record Reported (ds : List ℕ) (Before : ℕ → Type 0) (after : Run) (answer : Answer) : Type 0 where
     -- it answers a conflict exactly if the closure of the decisions holds some variable both ways
     pub conflicts : ((name : ℕ) × (answer ≡ Conflict name)) ↔ BothWays (Closure formula ds)
-    -- every literal of the clause that it names is then false
+    -- the clause that it names has a literal, and every one is then false
     pub named : (name : ℕ) → answer ≡ Conflict name
-        → (c : ℕ) × (name ≡ suc c) × (c < length (formula .clauses)) × ((m : ℕ) → member m (clauseOf formula c) ≡ true → isFalse (after .trail) m ≡ true)
+        → (c : ℕ) × (name ≡ suc c) × (0 < size formula c) × ((m : ℕ) → member m (clauseOf formula c) ≡ true → isFalse (after .trail) m ≡ true)
     -- otherwise it answers how many literals it implied, and these, the last ones on the trail, are just what the closure gained, each once
     pub gained : (BothWays (Closure formula ds) → ⊥)
         → (n : ℕ) × (answer ≡ Implied n)
@@ -40,8 +37,12 @@ module _ (book : List ℕ) where
         × (distinct (trailBehind (length (after .trail) - n) after) ≡ true)
         × ((l : ℕ) → (member l (trailBehind (length (after .trail) - n) after) ≡ true) ↔ (Closure formula ds l × (Before l → ⊥)))
 
+module _ (book : List ℕ) where
+  abbrev formula : Formula
+  formula = formulaOf book
+
   abbrev pub OpenReported : List ℕ → Type 0
-  OpenReported buffer = Reported [] (λ l. ⊥) (held formula (openNumbers book buffer)) (openAnswer book (length buffer))
+  OpenReported buffer = Reported formula [] (λ l. ⊥) (held formula (openNumbers book buffer)) (openAnswer book (length buffer))
 
   -- Of every session that passes, whoever lent it, on the run that it holds:
   module _ (session : List ℕ) where
@@ -51,9 +52,10 @@ module _ (book : List ℕ) where
     pub record Statement2 : Type 0 where
       -- out of conflict a literal is true exactly if it is in the closure of the decisions in force
       pub closure : run .conflict ≡ 0 → (l : ℕ) → (isTrue (run .trail) l ≡ true) ↔ Closure formula (decisions (run .trail)) l
-      -- it is in conflict exactly if the closure holds some variable both ways, and the conflict clause is then all false
+      -- it is in conflict exactly if the closure holds some variable both ways, and the conflict clause then has a literal and is all false
       pub both-ways : (inConflict run ≡ true) ↔ BothWays (Closure formula (decisions (run .trail)))
-      pub conflict-clause : (c : ℕ) → run .conflict ≡ suc c → (m : ℕ) → member m (clauseOf formula c) ≡ true → isFalse (run .trail) m ≡ true
+      pub conflict-clause : (c : ℕ) → run .conflict ≡ suc c
+          → (0 < size formula c) × ((m : ℕ) → member m (clauseOf formula c) ≡ true → isFalse (run .trail) m ≡ true)
       -- and lookup tells it: out of conflict it answers positive, or negative, exactly if that literal of the variable is in the closure
       pub shown-positive : run .conflict ≡ 0 → (v : ℕ) → 1 ≤ v → v ≤ formula .variables
           → (lookupAnswer book session v ≡ Positive) ↔ Closure formula (decisions (run .trail)) (positive v)
@@ -63,7 +65,7 @@ module _ (book : List ℕ) where
     -- a decision of l: before it implied anything, l and the closure of the decisions before it were true
     abbrev pub DecideReported : ℕ → Type 0
     DecideReported l =
-        Reported (l ∷ decisions (run .trail)) (λ m. (m ≡ l) ⊎ Closure formula (decisions (run .trail)) m)
+        Reported formula (l ∷ decisions (run .trail)) (λ m. (m ≡ l) ⊎ Closure formula (decisions (run .trail)) m)
         (held formula (decideNumbers book session l)) (decideAnswer book session l)
 
   -- After an accepted opening on any lent numbers and then any calls, refused ones included, of the numbers that are then left:
@@ -83,11 +85,11 @@ module _ (book : List ℕ) where
       pub total : totalAnswer book left ≡ Checks (sum (reached .checks))
       pub exact : (c : ℕ) → checksOf reached c < maxCount
       -- a clause's checks are those before the latest accepted backtrack (none, where there is none) and those since then; of n ≥ 2 literals it
-      -- has at most 2 × n − 3 since then, and at most (2 × n − 3) × (b + 1) in all; of one literal it costs none
+      -- has at most 2 × n − 3 since then, and at most (2 × n − 3) × (b + 1) in all; of one literal or of none it costs nothing
       pub periods : (c : ℕ) → checksOf reached c ≡ countBefore formula c calls + checksSince formula c calls
       pub in-period : (c : ℕ) → 2 ≤ size formula c → checksSince formula c calls ≤ ceiling (size formula c)
       pub in-all : (c : ℕ) → 2 ≤ size formula c → checksOf reached c ≤ ceiling (size formula c) * (reached .backtracks + 1)
-      pub units : (c : ℕ) → size formula c ≡ 1 → checksOf reached c ≡ 0
+      pub unscanned : (c : ℕ) → size formula c < 2 → checksOf reached c ≡ 0
       -- a backtrack that is accepted next moves no watch, pointer or list, and makes no check
       pub backtrack-moves-nothing : (k : ℕ) → backtrackRefusal k reached ≡ 0
           → (held formula (backtrackNumbers book left k) .cells ≡ reached .cells)

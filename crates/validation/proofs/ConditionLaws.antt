@@ -298,7 +298,7 @@ module _ (formula : Formula) (run : Run) where
 pub record Stands (formula : Formula) (run : Run) : Type 0 where
   pub fixpoint : run .conflict ≡ 0 → Fixpoint formula run (run .trail)
   pub conflict-false : (c : ℕ) → run .conflict ≡ suc c
-      → (c < length (formula .clauses)) × ((m : ℕ) → member m (clauseOf formula c) ≡ true → isFalse (run .trail) m ≡ true)
+      → (0 < size formula c) × ((m : ℕ) → member m (clauseOf formula c) ≡ true → isFalse (run .trail) m ≡ true)
   pub fixpoint-below : (c : ℕ) → run .conflict ≡ suc c → 0 < length (decisions (run .trail)) → Fixpoint formula run (lowered (run .trail))
 
 module _ (formula : Formula) (run : Run) where
@@ -314,13 +314,13 @@ module _ (formula : Formula) (run : Run) where
         fixpoint-below = λ c z. absurd (omega arith);
       }
   conflict-said (suc d) q e =
-      let a = and-parts (ltb d (length (formula .clauses)) && all (isFalse (run .trail)) (clauseOf formula d)) (undecided || isFixpoint formula run (lowered (run .trail))) e in
-      let b = and-parts (ltb d (length (formula .clauses))) (all (isFalse (run .trail)) (clauseOf formula d)) (a .0) in
+      let a = and-parts (leb 1 (size formula d) && all (isFalse (run .trail)) (clauseOf formula d)) (undecided || isFixpoint formula run (lowered (run .trail))) e in
+      let b = and-parts (leb 1 (size formula d)) (all (isFalse (run .trail)) (clauseOf formula d)) (a .0) in
       record {
         fixpoint = λ z. absurd (omega arith);
         conflict-false = λ c z.
             let same : c ≡ d = omega arith in
-            rw same (ltb-true d (length (formula .clauses)) (b .0), all-member (isFalse (run .trail)) (clauseOf formula d) (b .1));
+            rw same (leb-true 1 (size formula d) (b .0), all-member (isFalse (run .trail)) (clauseOf formula d) (b .1));
         fixpoint-below = λ c z some.
             ⊎-elim (λ u. absurd (let n = eqb-true (length (decisions (run .trail))) 0 u in omega arith))
             (fixpoint-said formula run (lowered (run .trail)))
@@ -332,7 +332,7 @@ module _ (formula : Formula) (run : Run) where
   conflict-tests zero q t = fixpoint-tests formula run (run .trail) (t .fixpoint q)
   conflict-tests (suc d) q t =
       let f = t .conflict-false d q in
-      both (both (lt-ltb d (length (formula .clauses)) (f .0)) (all-members (isFalse (run .trail)) (clauseOf formula d) (f .1)))
+      both (both (le-leb 1 (size formula d) (f .0)) (all-members (isFalse (run .trail)) (clauseOf formula d) (f .1)))
       (⊎-elim (λ u. left-or (isFixpoint formula run (lowered (run .trail))) (eq-eqb (length (decisions (run .trail))) 0 u))
       (λ n. right-or undecided (fixpoint-tests formula run (lowered (run .trail)) (t .fixpoint-below d q (omega arith))))
       (alike (length (decisions (run .trail))) 0))

@@ -14,6 +14,7 @@ use Rattle.book.proofs.WellFormedLaws.{well-formed-sound}
 use Rattle.run.specs.Run.{maxCount}
 use Rattle.run.specs.Calls.{maxBacktracks}
 use Rattle.run.specs.Valid.{Justified, Valid}
+use Rattle.run.proofs.Clauses.{clause-exists}
 use Rattle.run.proofs.Propagation.{valid-structure}
 use Rattle.run.proofs.Validity.{trail-short}
 use Rattle.layout.specs.Layout.{lengthAt, decisionsAt, conflictAt, backtracksAt, checksAt, SessionFits, requiredLength, held}
@@ -114,15 +115,12 @@ module _ (book numbers : List ℕ) (well : wellFormed book ≡ true) where
           unwatched = p .built .cells .unwatched;
           listed = p .built .lists .listed;
           fixpoint = p .quiet;
-          conflict-false = λ c e. (inside c e, rw (before c e) at (p .conflict (omega arith)));
+          conflict-false = λ c e. rw (before c e) at (p .conflict (omega arith));
           fixpoint-below = λ c e some. p .lower (omega arith) (omega (arith, p .built .trail .is-held .decided));
         }
       where
         before : (c : ℕ) → getD numbers conflictAt 0 ≡ suc c → getD numbers conflictAt 0 - 1 ≡ c
         before c e = omega arith
-
-        inside : (c : ℕ) → getD numbers conflictAt 0 ≡ suc c → c < length (formulaOf book .clauses)
-        inside c e = omega (arith, p .built .conflict-within, clauses-counted book)
 
     pub parts-pass : ((i : ℕ) → getD numbers i 0 ≤ maxCount) → passes (formulaOf book) numbers ≡ true
     parts-pass small =
@@ -150,7 +148,7 @@ module _ (book numbers : List ℕ) (well : wellFormed book ≡ true) where
               lists = record { is-held = e .watches; listed = v .listed };
             };
         quiet = v .fixpoint;
-        conflict = λ some. v .conflict-false (getD numbers conflictAt 0 - 1) (next some) .1;
+        conflict = λ some. v .conflict-false (getD numbers conflictAt 0 - 1) (next some);
         lower = λ some top. v .fixpoint-below (getD numbers conflictAt 0 - 1) (next some) (omega (arith, e .trail .decided));
       }
     where
@@ -159,7 +157,8 @@ module _ (book numbers : List ℕ) (well : wellFormed book ≡ true) where
 
       within : (0 < getD numbers conflictAt 0) ⊎ (getD numbers conflictAt 0 ≤ 0) → getD numbers conflictAt 0 ≤ clausesOf book
       within (inl some) =
-          omega (arith, v .conflict-false (getD numbers conflictAt 0 - 1) (next some) .0, clauses-counted book)
+          let named = clause-exists (formulaOf book) (getD numbers conflictAt 0 - 1) (v .conflict-false (getD numbers conflictAt 0 - 1) (next some) .0) in
+          omega (arith, clauses-counted book)
       within (inr none) = omega arith
 
   pub passes-parts : passes (formulaOf book) numbers ≡ true → PartsPass book numbers

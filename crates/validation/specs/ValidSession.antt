@@ -29,7 +29,7 @@ module _ (formula : Formula) (numbers : List ℕ) where
     pub levels : (i : ℕ) → i < v → getD numbers (levelsAt v + i) 0 ≡ levelNumber (run .trail) (suc i)
     -- the values are the trail's
     pub values : (i : ℕ) → i < v → getD numbers (valuesAt v + i) 0 ≡ valueNumber (run .trail) (suc i)
-    -- each watch list is the chain of nodes from its head to a 0, and the nodes of a clause of one literal have no link
+    -- each watch list is the chain of nodes from its head to a 0, and the nodes of a clause of one literal or of none have no link
     pub chains : (l : ℕ) → 2 ≤ l → l ≤ 2 * v + 1 → Chain v c numbers (headSlot v c l) (nodesOf formula (run .cells) l (listOf (run .lists) l))
     pub idle : (node : ℕ) → 1 ≤ node → node ≤ 2 * c → size formula (clauseOfNode node) < 2 → getD numbers (linkSlot v c node) 0 ≡ 0
     -- and all that the examination asks of trail, watches, pointers, lists, conflict and counts

@@ -24,7 +24,7 @@ isJustified formula [] = true
 isJustified formula (e ∷ trail) =
     (e .decided || hasReason formula trail (e .literal)) && isJustified formula trail
 
--- two different watches, and the pointer is one of them; a clause of one literal has 0 in each
+-- two different watches, and the pointer is one of them; a clause of one literal or of none has 0 in each
 unfoldable pub isWatching : ℕ → Cell → Bool
 isWatching n cell =
     cond (leb 2 n)
@@ -39,7 +39,7 @@ isGuarded trail a b = isFalse trail a && isTrue trail b && leb (level trail b) (
 unfoldable pub watchesHold : List Entry → ℕ → ℕ → Bool
 watchesHold trail a b = (not (isFalse trail a) && not (isFalse trail b)) || (isGuarded trail a b || isGuarded trail b a)
 
--- one-literal clauses are true at level 0, and the watches of the others hold
+-- one-literal clauses are true at level 0, and the watches of longer ones hold
 unfoldable pub isFixpoint : Formula → Run → List Entry → Bool
 isFixpoint formula run trail =
     upTo (length (formula .clauses))
@@ -48,11 +48,11 @@ isFixpoint formula run trail =
     (isTrue trail (getD (clauseOf formula c) 0 0) && eqb (level trail (getD (clauseOf formula c) 0 0)) 0)
     (cond (leb 2 (size formula c)) (watchesHold trail (firstWatch formula run c) (secondWatch formula run c)) true))
 
--- in conflict the conflict clause is all false, and the rest holds for the trail without its top level, if it has one
+-- in conflict the conflict clause has a literal and is all false, and the rest holds for the trail without its top level, if it has one
 unfoldable pub isConflict : Formula → Run → ℕ → Bool
 isConflict formula run zero = isFixpoint formula run (run .trail)
 isConflict formula run (suc c) =
-    ltb c (length (formula .clauses))
+    leb 1 (size formula c)
     && all (isFalse (run .trail)) (clauseOf formula c)
     && (eqb (length (decisions (run .trail))) 0 || isFixpoint formula run (lowered (run .trail)))
 

@@ -1,4 +1,4 @@
-// The conflict clause: every literal of it is false.
+// The conflict clause: it has a literal, and every one is false.
 ghost use mathlib.Core.Path.{_≡_};
 ghost use mathlib.Core.Bool.{true};
 ghost use Prim.Native.Nat.{ℕ, _<_};
@@ -29,7 +29,7 @@ fn all_false(clause: &[u32], session: &[u32], variables: usize) -> bool
     true
 }
 
-// Every literal of clause c is false.
+// Clause c has a literal, and every one is false.
 pub(crate) fn conflict_false(book: &[u32], session: &[u32], c: usize) -> bool
     requires { ⌜ TrailPassed (now book) (now session) ⌝ }
     requires { ⌜ c < clausesOf (now book) ⌝ }
@@ -38,5 +38,8 @@ pub(crate) fn conflict_false(book: &[u32], session: &[u32], c: usize) -> bool
     let variables = book::variables(book);
     let start = clause_start(book, c);
     let end = clause_start(book, c + 1);
+    if end == start {
+        return false;
+    }
     all_false(&book[start..end], session, variables)
 }

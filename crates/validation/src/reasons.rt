@@ -20,7 +20,7 @@ use layout::values::wide;
 // One more than the places of the longest trail.
 const PLACE_MARKS: usize = MAX_VARIABLES + 1;
 
-// The place of a true literal of a clause with only false ones before it, 0 where the clause implies none: one is open, or all are false.
+// The place of a true literal of a clause with only false ones before it, 0 where there is none: the first that is not false is open, or none is not false.
 fn true_place(clause: &[u32], session: &[u32], variables: usize) -> usize
     requires { ⌜ Readable variables (now session) ⌝ }
     requires { ⌜ soundClause variables (now clause) ≡ true ⌝ }

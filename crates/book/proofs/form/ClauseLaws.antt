@@ -1,7 +1,7 @@
 -- The steps in which the literals of a clause are looked through with marks.
 use Prim.Native.Nat.{ℕ, suc, _+_, _*_, _/_, _≤_, _<_}
 use mathlib.Core.Bool.{true, false, not, false≢true}
-use mathlib.Core.List.{List, [], _∷_, _++_, map, map-append}
+use mathlib.Core.List.{List, [], _++_, map, map-append}
 use mathlib.Core.Path.{_≡_, refl, sym, _∙_}
 use native.Mathlib.Omega.{arith}
 use native.Mathlib.Numerals.{add-one}
@@ -15,12 +15,9 @@ use Rattle.base.proofs.Members.{distinct-more, distinct-front}
 use Rattle.book.specs.Formula.{variableOf, literalWithin, soundClause, maxClause}
 use Rattle.book.specs.Inner.Marks.{Marked, variableMarks}
 use Rattle.book.proofs.SoundLaws.{literal-parts, literal-whole, clause-parts, clause-whole, clause-literal}
-use Rattle.book.proofs.marks.Laws.{marked-test, marked-more}
+use Rattle.book.proofs.marks.Laws.{marked-test, marked-more, seen-more}
 
 module _ (variables : ℕ) (clause : List ℕ) where
-  pub refuse-empty : length clause < 1 → soundClause variables clause ≡ false
-  refuse-empty h = refuted _ (λ e. omega (arith, clause-parts variables clause e))
-
   pub refuse-long : maxClause < length clause → soundClause variables clause ≡ false
   refuse-long h = refuted _ (λ e. omega (arith, clause-parts variables clause e))
 
@@ -42,19 +39,15 @@ unfolding all distinct
 passed-none variables tag clause marks m = record { bound = omega arith; within = refl; once = refl; marked = m }
 
 pub passed-all : (variables tag : ℕ) (clause marks : List ℕ) (i : ℕ) → Passed variables tag clause marks i → length clause ≤ i
-    → 1 ≤ length clause → length clause ≤ maxClause → soundClause variables clause ≡ true
-passed-all variables tag clause marks i p end some few =
+    → length clause ≤ maxClause → soundClause variables clause ≡ true
+passed-all variables tag clause marks i p end few =
     let whole : take i clause ≡ clause = take-all i clause end in
-    clause-whole variables clause
-    (record { filled = some; short = few; within = rw whole at (p .within); once = rw whole at (p .once) })
+    clause-whole variables clause (record { short = few; within = rw whole at (p .within); once = rw whole at (p .once) })
 
 -- the next literal, l
 module _ (variables tag : ℕ) (clause marks : List ℕ) (i l : ℕ) (p : Passed variables tag clause marks i) (h : i < length clause)
     (next : l ≡ getD clause i 0) (small : l / 2 < variableMarks)
   where
-    seen-more : map variableOf (take (suc i) clause) ≡ map variableOf (take i clause) ++ (l / 2 ∷ [])
-    seen-more = rw (next, take-suc clause i 0 h, map-append)
-
     bears-seen : eqb (getD marks (l / 2) 0) tag ≡ member (l / 2) (map variableOf (take i clause))
     bears-seen = marked-test marks tag (map variableOf (take i clause)) (l / 2) small (p .marked)
 
@@ -68,7 +61,7 @@ module _ (variables tag : ℕ) (clause marks : List ℕ) (i l : ℕ) (p : Passed
             rw take-append-drop (clause-parts variables clause e .once) in
             let front : distinct (map variableOf (take (suc i) clause)) ≡ true =
             distinct-front _ (map variableOf (drop (suc i) clause)) (rw map-append at whole) in
-            and-parts (distinct (map variableOf (take i clause))) _ (rw (seen-more, distinct-more) at front) .1
+            and-parts (distinct (map variableOf (take i clause))) _ (rw (seen-more clause i l h next, distinct-more) at front) .1
 
     -- a literal within the variables, and whose variable does not bear the tag, is passed
     pub passed-more : 2 ≤ l → l ≤ 2 * variables + 1 → eqb (getD marks (l / 2) 0) tag ≡ false
@@ -79,6 +72,6 @@ module _ (variables tag : ℕ) (clause marks : List ℕ) (i l : ℕ) (p : Passed
         (record {
           bound = h;
           within = rw (take-suc clause i 0 h, all-more, ← next, p .within) (literal-whole variables l low high);
-          once = rw (seen-more, distinct-more, p .once, new);
-          marked = rw seen-more (marked-more marks tag (map variableOf (take i clause)) (l / 2) small (p .marked));
+          once = rw (seen-more clause i l h next, distinct-more, p .once, new);
+          marked = rw (seen-more clause i l h next) (marked-more marks tag (map variableOf (take i clause)) (l / 2) small (p .marked));
         })

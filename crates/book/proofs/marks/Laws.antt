@@ -1,17 +1,18 @@
--- The laws of the marks on variables: no variable seen yet, one variable more, and what a mark says.
-use Prim.Native.Nat.{ℕ, _≤_, _<_}
+-- The laws of the marks on variables: no variable seen yet, one variable more, the next literal of a clause, and what a mark says.
+use Prim.Native.Nat.{ℕ, suc, _/_, _≤_, _<_}
 use mathlib.Core.Bool.{Bool, true, false, or-false, or-true}
-use mathlib.Core.List.{List, [], _∷_, _++_}
+use mathlib.Core.List.{List, [], _∷_, _++_, map, map-append}
 use mathlib.Core.Path.{_≡_, refl, _∙_}
 use native.Mathlib.Omega.{arith}
 use native.Mathlib.Nat.{le-of-eq}
 use borrow.Author.Tests.{eqb-true, eqb-false, eq-eqb, ne-eqb}
 use lib.Dec.{eqb}
-use lib.ListN.{length, getD, set, replicate, length-set, length-replicate}
-use lib.Seq.{getD-set-same, getD-set-other}
+use lib.ListN.{length, getD, set, take, replicate, length-set, length-replicate}
+use lib.Seq.{getD-set-same, getD-set-other, take-suc}
 use Rattle.base.specs.Lists.{member}
 use Rattle.base.proofs.Lists.{getD-alike}
 use Rattle.base.proofs.Members.{member-more}
+use Rattle.book.specs.Formula.{variableOf}
 use Rattle.book.specs.Inner.Marks.{Bounded, Marked, variableMarks}
 
 -- fresh marks are all 0
@@ -61,3 +62,8 @@ module _ (marks : List ℕ) (tag : ℕ) (seen : List ℕ) (x : ℕ) (within : x 
       exact : (k : ℕ) → k < variableMarks → (b : Bool) → eqb k x ≡ b → eqb (getD (set marks x tag) k 0) tag ≡ member k (seen ++ (x ∷ []))
       exact k h true e = rw (at-same k (eqb-true k x e), member-more k seen x, e, or-true) (eq-eqb tag tag refl)
       exact k h false e = rw (at-other k (eqb-false k x e), member-more k seen x, e, or-false) (m .exact k h)
+
+-- the variables of the literals before i + 1 are those before i, and that of the literal at i
+pub seen-more : (clause : List ℕ) (i l : ℕ) → i < length clause → l ≡ getD clause i 0
+    → map variableOf (take (suc i) clause) ≡ map variableOf (take i clause) ++ (l / 2 ∷ [])
+seen-more clause i l h next = rw (next, take-suc clause i 0 h, map-append)

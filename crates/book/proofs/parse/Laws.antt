@@ -16,6 +16,7 @@ use Rattle.book.specs.Reading.{refused}
 use Rattle.book.specs.Inner.Walk.{walk, walkUnder, walkStart, walkLines}
 use Rattle.book.specs.Inner.Cursor.{LineStart}
 use Rattle.book.specs.Inner.Body.{Written}
+use Rattle.book.proofs.NumberLaws.{length-numbers}
 use Rattle.book.proofs.WordLaws.{walk-lines}
 
 -- the answer to a text is the answer at its first line that is not skipped
@@ -66,5 +67,8 @@ written-front (n₀ ∷ n₁ ∷ n₂ ∷ rest) variables clauses total done w c
 
 -- the same where V and C are stored as they were read
 pub stored-front : (numbers : List ℕ) (v c w d total : ℕ) (done : List (List ℕ)) → w ≡ v → d ≡ c → Written numbers d done [] → length done ≡ d → length (flat done) ≡ total
-    → take (c + total + 4) (set (set (set numbers 0 v) 1 c) 2 total) ≡ numbersOf (record { variables = w; clauses = done })
-stored-front numbers v c w d total done same-variables same-clauses written counted all = rw (sym same-variables, sym same-clauses) (written-front numbers w d total done written counted all)
+    → take (length (numbersOf (record { variables = w; clauses = done }))) (set (set (set numbers 0 v) 1 c) 2 total)
+    ≡ numbersOf (record { variables = w; clauses = done })
+stored-front numbers v c w d total done same-variables same-clauses written counted all =
+    rw (length-numbers (record { variables = w; clauses = done }), counted, all, ← same-variables, ← same-clauses)
+    (written-front numbers w d total done written counted all)

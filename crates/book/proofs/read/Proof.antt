@@ -5,7 +5,7 @@ use native.Mathlib.Omega.{arith}
 use Rattle.book.specs.Inner.Parse.{ParsedSays, Read}
 use Rattle.book.specs.declared.parse.Parsed.{Parsed}
 use Rattle.book.proofs.FaultLaws.{too-long}
-use Rattle.book.proofs.ReadLaws.{answer-refused, read-walked, read-short, read-book}
+use Rattle.book.proofs.ReadLaws.{answer-refused, read-refused, book-within, read-short, read-book}
 use borrow.Author.Needs.{needs}
 use Rattle.book.proofs.read.Statement.{statement}
 use Rattle.book.proofs.read.Tie as tie
@@ -13,7 +13,7 @@ use Rattle.book.proofs.read.Tie as tie
 abbrev entry-before-parse : tie.After-parse → tie.Start
 entry-before-parse c = c .before .before .before .before .before
 
--- the book that was read
+-- what was parsed, by its answer
 parsed : (c : tie.After-parse) {p : Parsed} →
     let entry = entry-before-parse c in
     c .parse .result ≡ p → ParsedSays (entry .args .text .now) (c .parse .last .1 .0) p
@@ -68,13 +68,13 @@ copy-requires : tie.Need-copy-requires
 copy-requires c κs =
     let after-wide = c .before .before .before .before in
     let after-variables = after-wide .before .before in
-    (omega (arith, after-wide .wide .ensures .0, c .before .before .before .wide2 .ensures .0, book-read after-variables .long, book-read after-variables .few-clauses, book-read after-variables .few-literals), omega (arith, c .before .before .if2 .left))
+    (omega (arith, after-wide .wide .ensures .0, c .before .before .before .wide2 .ensures .0, book-read after-variables .long, book-within (book-read after-variables)), omega (arith, c .before .before .if2 .left))
 
 returns-3 : tie.Need-returns-3
 returns-3 c =
     let else1 = c .before .before .before .before .before in
     let entry = else1 .before .before .before in
-    answer-refused _ (entry .args .out .now) _ (read-walked (entry .args .text .now) _ (omega (arith, else1 .if1 .left)) (parsed (c .before .before .before) (c .before .number .given .1)))
+    answer-refused _ (entry .args .out .now) _ (read-refused (entry .args .text .now) _ (omega (arith, else1 .if1 .left)) (parsed (c .before .before .before) (c .before .number .given .1)))
 
 same-length : tie.Need-same-length
 same-length c = search needs

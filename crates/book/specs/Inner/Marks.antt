@@ -1,4 +1,4 @@
--- What the contracts of src/form.rt cite of the marks that src/marks.rt sets: one for each variable, so that a repeated variable of a clause is met in one step.
+-- What the contracts of src/form.rt and src/reduce.rt cite of the marks that src/marks.rt sets: one for each variable, so that a repeated variable of a clause is met in one step.
 use Prim.Native.Nat.{ℕ, _+_, _≤_, _<_}
 use mathlib.Core.List.{List}
 use mathlib.Core.Path.{_≡_}

@@ -1,8 +1,8 @@
 -- Reasons: a clause that implies the literal at a place of the trail, and marks at the places that clauses imply.
-use Prim.Native.Nat.{ℕ, zero, suc, _+_, _*_, _≤_, _<_}
+use Prim.Native.Nat.{ℕ, zero, suc, _+_, _*_, _-_, _≤_, _<_}
 use native.Mathlib.Omega.{arith}
 use native.Mathlib.Numerals.{add-one}
-use mathlib.Core.Bool.{Bool, true}
+use mathlib.Core.Bool.{Bool, true, false}
 use mathlib.Core.List.{List}
 use mathlib.Core.Logic.{_⊎_, inl, inr, ⊎-elim}
 use mathlib.Core.Path.{_≡_, sym, ap, _∙_}
@@ -13,13 +13,13 @@ use lib.Seq.{getD-set-same, getD-set-other}
 use Rattle.base.specs.Lists.{member, distinct}
 use Rattle.base.proofs.Bools.{alike, below, both}
 use Rattle.base.proofs.Members.{member-at, position}
-use Rattle.base.proofs.Lists.{all-at, getD-alike, part}
+use Rattle.base.proofs.Lists.{all-at, getD-alike, part, length-part}
 use Rattle.book.specs.Formula.{Formula, literalWithin, soundClause}
 use Rattle.book.specs.Numbers.{variablesOf, clausesOf, clauseStart, clauseAt, formulaOf}
 use Rattle.book.proofs.SoundLaws.{clause-parts, literal-parts}
 use Rattle.book.proofs.PartLaws.{clause-between, clauses-counted, clause-of-formula}
 use Rattle.run.specs.Trail.{Entry, opposite, place, isFalse, variablesOn}
-use Rattle.run.specs.Run.{clauseOf}
+use Rattle.run.specs.Run.{clauseOf, size}
 use Rattle.run.specs.Valid.{Reason, Justified}
 use Rattle.run.proofs.Opposites.{opposite-cases, OppositeCase}
 use Rattle.run.proofs.Trails.{place-new, place-within, place-injective, consistent, true-place, place-true}
@@ -31,7 +31,7 @@ use Rattle.validation.specs.Inner.Conflict.{AllFalse}
 use Rattle.validation.specs.Inner.Places.{Readable, TrailPassed, trailOf}
 use Rattle.validation.specs.Inner.Reasons.{Before, Implies, TruePlace, ImpliedPlace, placeMarks, ImpliedAt, ImpliedMarkedTo, ImpliedMarked}
 use Rattle.base.proofs.Occurrences.{at-members}
-use Rattle.validation.proofs.SaysLaws.{says-alike}
+use Rattle.validation.proofs.SaysLaws.{says-false, says-alike}
 use Rattle.validation.proofs.trail.Laws.{held-length}
 
 -- the opposite of a literal of the V variables is one too
@@ -326,15 +326,25 @@ module _ (book numbers : List ℕ) (c v s e : ℕ) (is : v ≡ variablesOf book)
         → ImpliedPlace (trailOf (variablesOf book) numbers) (clauseAt book c) r
     implied-at r p = rw (← clause-between book c s e begin end, ← is) p
 
-    -- whether all its literals are false
-    pub false-at : c < clausesOf book → (answer : Bool)
+    same : c < clausesOf book → clauseOf (formulaOf book) c ≡ part s e book
+    same less = clause-of-formula book c less ∙ sym (clause-between book c s e begin end)
+
+    same-size : c < clausesOf book → e ≤ length book → size (formulaOf book) c ≡ e - s
+    same-size less inside = ap length (same less) ∙ length-part s e book inside
+
+    -- whether it has a literal, and all are false
+    pub none-at : c < clausesOf book → e ≤ length book → e ≡ s → Says false (AllFalse (formulaOf book) numbers c)
+    none-at less inside none = says-false (λ all. omega (arith, all .0, same-size less inside))
+
+    pub false-at : c < clausesOf book → e ≤ length book → s < e → (answer : Bool)
         → Says answer ((m : ℕ) → member m (part s e book) ≡ true → isFalse (trailOf v numbers) m ≡ true)
         → Says answer (AllFalse (formulaOf book) numbers c)
     unfolding held
-    false-at less answer said =
-        let same : clauseOf (formulaOf book) c ≡ part s e book =
-        clause-of-formula book c less ∙ sym (clause-between book c s e begin end) in
-        says-alike (λ all m on. rw (← is) (all m (rw same at on))) (λ all m on. rw is (all m (rw same on))) said
+    false-at less inside some answer said =
+        says-alike
+        (λ all. (omega (arith, same-size less inside), λ m on. rw (← is) (all m (rw (same less) at on))))
+        (λ all m on. rw is (all .1 m (rw (same less) on)))
+        said
 
 -- a place that a clause implies is at most the number of variables
 pub implied-small : (v : ℕ) (numbers clause : List ℕ) (r : ℕ) → Readable v numbers → ImpliedPlace (trailOf v numbers) clause r → r ≤ v

@@ -179,7 +179,7 @@ returns-9 c =
     c .before .conflict-false .ensures .no (not-true _ (c .if9 .taken))
     (conflict-from (start .args .book .now) (start .args .session .now) _ (name-is else7) (p .conflict some)))
 
--- the conflict clause is all false
+-- the conflict clause has a literal and is all false
 all-false : (c : tie.Else9) →
     let start = start-7 (c .before .before .before) in
     AllFalse (formulaOf (start .args .book .now)) (start .args .session .now) (getD (start .args .session .now) conflictAt 0 - 1)

@@ -1,14 +1,15 @@
--- What the contracts of src/conflict.rt cite: a clause all of whose literals are false.
-use Prim.Native.Nat.{ℕ}
+-- What the contracts of src/conflict.rt cite: a clause that has literals, all of them false.
+use Prim.Native.Nat.{ℕ, _<_}
 use mathlib.Core.Path.{_≡_}
 use mathlib.Core.Bool.{true}
 use mathlib.Core.List.{List}
 use Rattle.base.specs.Lists.{member}
 use Rattle.book.specs.Formula.{Formula}
 use Rattle.run.specs.Trail.{isFalse}
-use Rattle.run.specs.Run.{clauseOf}
+use Rattle.run.specs.Run.{clauseOf, size}
 use Rattle.layout.specs.Layout.{held}
 
--- every literal of a clause is false
+-- a clause has a literal, and every one is false
 abbrev pub AllFalse : Formula → List ℕ → ℕ → Type 0
-AllFalse formula numbers c = (m : ℕ) → member m (clauseOf formula c) ≡ true → isFalse (held formula numbers .trail) m ≡ true
+AllFalse formula numbers c =
+    (0 < size formula c) × ((m : ℕ) → member m (clauseOf formula c) ≡ true → isFalse (held formula numbers .trail) m ≡ true)

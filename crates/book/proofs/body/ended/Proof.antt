@@ -11,11 +11,17 @@ returns c = (refl, inl (c .if1 .taken))
 returns-2 : tie.Need-returns-2
 returns-2 c = (refl, inr (c .if2 .taken))
 
-cast-t4 : tie.Need-cast-t4
-cast-t4 c = search needs
+add-t4 : tie.Need-add-t4
+add-t4 c = search needs
+
+sub-t5 : tie.Need-sub-t5
+sub-t5 c = search needs
+
+cast-t6 : tie.Need-cast-t6
+cast-t6 c = search needs
 
 returns-3 : tie.Need-returns-3
 returns-3 c = search needs
 
 pub ended-spec : {M : Type 1} → statement M
-ended-spec = tie.close (tie.spec returns returns-2 cast-t4 returns-3)
+ended-spec = tie.close (tie.spec returns returns-2 add-t4 sub-t5 cast-t6 returns-3)

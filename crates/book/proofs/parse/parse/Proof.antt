@@ -1,10 +1,11 @@
 -- `parse` meets its contract: header, limits, clauses. Assumes nothing.
 use Prim.Native.Nat.{_≤_}
 use mathlib.Core.Path.{_≡_, subst, _∙_}
-use mathlib.Core.List.{[]}
+use mathlib.Core.List.{[], map}
 use native.Mathlib.Omega.{arith}
-use lib.ListN.{length, length-set}
+use lib.ListN.{length, length-set, length-map}
 use Rattle.book.specs.Text.{header, linesOf}
+use Rattle.book.specs.Reading.{asRead, readFormula}
 use Rattle.book.specs.Inner.Walk.{walk, walkUnder, walkLines}
 use Rattle.book.specs.Inner.Cursor.{tokensHere}
 use Rattle.book.specs.Inner.Header.{HeaderSays}
@@ -120,19 +121,18 @@ returns-5 c =
     limited after-wide2 ∙ body-says (c .before .before .before) (c .before .number .given .1)
 
 returns-6 : tie.Need-returns-6
+unfolding readFormula
 returns-6 c =
     let after-wide2 = c .before .before .before .before .before in
     let read = body-says (c .before .before .before) (c .before .literals .given .1) in
     record {
-      formula = record { variables = after-wide2 .before .wide .result; clauses = read .0 };
+      written = record { variables = after-wide2 .before .wide .result; clauses = read .0 };
       is-accepted = limited after-wide2 ∙ read .1;
       same-variables = after-wide2 .before .wide .ensures .0;
       same-clauses = read .2 ∙ after-wide2 .wide2 .ensures .0;
       same-literals = read .3;
-      few-clauses = after-wide2 .before .before .if3 .left;
-      few-literals = read .4;
-      long = simp length-set (read .5 .long);
-      front = stored-front _ _ _ _ _ _ (read .0) (after-wide2 .before .wide .ensures .0) (after-wide2 .wide2 .ensures .0) (read .5) (read .2) (read .3);
+      long = simp length-set (read .4 .long);
+      front = stored-front _ _ _ _ _ _ (map asRead (read .0)) (after-wide2 .before .wide .ensures .0) (after-wide2 .wide2 .ensures .0) (read .4) (length-map (read .0) asRead ∙ read .2) (read .3);
     }
 
 pub parse-spec : {M : Type 1} → statement M

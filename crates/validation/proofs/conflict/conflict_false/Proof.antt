@@ -3,7 +3,7 @@ use Prim.Native.Nat.{_≤_}
 use native.Mathlib.Omega.{arith}
 use lib.ListN.{length}
 use Rattle.validation.proofs.places.Laws.{passed-readable, passed-clause, passed-inside}
-use Rattle.validation.proofs.reasons.Laws.{false-at}
+use Rattle.validation.proofs.reasons.Laws.{none-at, false-at}
 use Rattle.validation.proofs.conflict.conflict_false.Statement.{statement}
 use Rattle.validation.proofs.conflict.conflict_false.Tie as tie
 
@@ -34,34 +34,43 @@ inside c =
     passed-inside (start .args .book .now) _ (start .pre .0) (start .args .c) _ _ (start .pre .1) (c .before .clause-start .ensures)
     (c .clause-start2 .ensures)
 
+-- a clause of no literals
+returns : tie.Need-returns
+returns c =
+    let clause = c .before in
+    let start = entry-before-clause-start2 clause in
+    none-at (start .args .book .now) (start .args .session .now) (start .args .c) _ _ _ (clause .before .before .variables .ensures)
+    (clause .before .clause-start .ensures) (clause .clause-start2 .ensures) (start .pre .1) (inside clause .1) (omega (arith, inside clause))
+
 mul-all-false : tie.Need-mul-all-false
-mul-all-false c = omega (arith, inside c)
+mul-all-false c = omega (arith, inside (c .before))
 
 sub-all-false : tie.Need-sub-all-false
-sub-all-false c = omega (arith, inside c)
+sub-all-false c = omega (arith, inside (c .before))
 
 part-all-false-start : tie.Need-part-all-false-start
-part-all-false-start c = omega (arith, inside c)
+part-all-false-start c = omega (arith, inside (c .before))
 
 part-all-false-end : tie.Need-part-all-false-end
-part-all-false-end c = omega (arith, inside c)
+part-all-false-end c = omega (arith, inside (c .before))
 
 all-false-requires : tie.Need-all-false-requires
 all-false-requires c κs =
-    let start = c .before .before .before .before .before .before in
-    let book = start .args .book .now in
-    let variables = c .before .before .before .variables .ensures in (
-      passed-readable book _ (start .pre .0) _ variables,
-      passed-clause book _ (start .pre .0) _ variables (start .args .c) _ _ (start .pre .1) (c .before .before .clause-start .ensures)
-          (c .before .clause-start2 .ensures),
-    )
-
-returns : tie.Need-returns
-returns c =
     let clause = c .before .before in
     let start = entry-before-clause-start2 clause in
+    let book = start .args .book .now in
+    let variables = clause .before .before .variables .ensures in (
+      passed-readable book _ (start .pre .0) _ variables,
+      passed-clause book _ (start .pre .0) _ variables (start .args .c) _ _ (start .pre .1) (clause .before .clause-start .ensures)
+          (clause .clause-start2 .ensures),
+    )
+
+returns-2 : tie.Need-returns-2
+returns-2 c =
+    let clause = c .before .before .before in
+    let start = entry-before-clause-start2 clause in
     false-at (start .args .book .now) (start .args .session .now) (start .args .c) _ _ _ (clause .before .before .variables .ensures)
-    (clause .before .clause-start .ensures) (clause .clause-start2 .ensures) (start .pre .1) _ (c .all-false .ensures)
+    (clause .before .clause-start .ensures) (clause .clause-start2 .ensures) (start .pre .1) (inside clause .1) (omega (arith, inside clause)) _ (c .all-false .ensures)
 
 pub conflict-false-spec : {M : Type 1} → statement M
 conflict-false-spec =
@@ -71,9 +80,10 @@ conflict-false-spec =
     clause-start-requires
     add-clause-start
     clause-start-requires-2
+    returns
     mul-all-false
     sub-all-false
     part-all-false-start
     part-all-false-end
     all-false-requires
-    returns)
+    returns-2)

@@ -1,0 +1,2 @@
+-- The laws of src/reduce.rt.
+pub mod ClauseLaws
