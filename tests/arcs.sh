@@ -6,5 +6,5 @@ cd "$(dirname "$0")/.."
 
 need_program
 build arcs
-self_test arcs 40 "drops the last forced literal" "misses contradictions" "contradicts each time"
+self_test arcs 40 "drops the last forced literal" "misses contradictions" "contradicts each time" "leaves rules with repeated literals out"
 run_cases arcs "$@"

@@ -7,7 +7,7 @@ cd "$(dirname "$0")/.."
 need_program
 need_library
 build counts "${library[@]}"
-self_test counts 60 "counts no checks" "counts a check too few" "counts a check too many"
+self_test counts 60 "counts no checks" "counts a check too few" "counts a check too many" "keeps repeated literals at their last place"
 compile counts.sanitized tests/counts/main.cpp "${library[@]}" "${sanitizers[@]}"
 quiet target/tests/counts.sanitized "$program" target/tests/counts.sanitized.d 45
 echo "counts: the first 45 cases agree with gcc's address and undefined-behaviour sanitizers too"

@@ -14,6 +14,7 @@
 #include "../support/compare.hpp"
 #include "../support/follow.hpp"
 #include "../support/play.hpp"
+#include "../support/repeats.hpp"
 #include "../support/totals.hpp"
 #include "csp.hpp"
 #include "encoding.hpp"
@@ -100,13 +101,14 @@ void run_csp(Bench& bench, Random& random, const std::string& shape, uint64_t se
     Encoding encoding = encode(csp, wanted);
     if (!within_limits(encoding.formula)) throw std::runtime_error("an encoding is too large, seed " + std::to_string(seed));
     if (random.chance(50)) random.shuffle(encoding.formula.clauses);
+    Formula written = random.chance(50) ? repeats::spread(random, encoding.formula) : encoding.formula, formula = as_read(written);
     Oracle oracle = [&](const std::vector<int>& decisions) { return arc_consistent(csp, encoding, decisions); };
     int lines = oracle({}).conflict ? 5 : random.between(10, 100);
     Play play = Player(random, oracle, wanted.at_most_one ? random.between(10, 60) : 0).write(lines);
-    Case example{shape, seed, dimacs(encoding.formula), play.script, 0};
-    totals.add(encoding.formula);
+    Case example{shape, seed, dimacs(written), play.script, 0};
+    totals.add(written);
     bench.run(example, [&](const std::string& output) {
-        follow(encoding.formula, example.script, output, [&](size_t i, const Session& session, const Answer& answer) {
+        follow(formula, example.script, output, [&](size_t i, const Session& session, const Answer& answer) {
             compare(session, *play.after.at(i));
             totals.add(session, answer);
         });

@@ -39,16 +39,35 @@ inline std::string clause_length(Random& random) {
     return text_of(random, formula);
 }
 
-inline std::string literals(Random& random) {
-    Formula formula{MAX_VARIABLES, {}};
+// About 6,000 literals in clauses that `make(length)` makes.
+template <class Make>
+Formula about_6000(Random& random, int variables, Make make) {
+    Formula formula{variables, {}};
     int left = random.between(MAX_LITERALS - 2, MAX_LITERALS + 2), longest = random.pick(std::vector<int>{7, 30, 255});
     while (left > 0) {
         int length = std::min(left, random.between(longest - 2, longest));
-        formula.clauses.push_back(shapes::random_clause(random, MAX_VARIABLES, length));
+        formula.clauses.push_back(make(length));
         left -= length;
     }
+    return formula;
+}
+
+inline std::string literals(Random& random) {
+    Formula formula = about_6000(random, MAX_VARIABLES, [&](int length) { return shapes::random_clause(random, MAX_VARIABLES, length); });
     if (random.chance(40)) spoil(random, formula, formula.clauses.back());
     return text_of(random, formula);
+}
+
+// A clause of about 255 literals, or about 6,000 in all, over few variables, so that most are repeated; 60 of 100 have no variable both ways.
+inline std::string repeated(Random& random) {
+    int variables = random.between(1, 12), positive = random.chance(60) ? 100 : random.between(0, 100);
+    auto make = [&](int length) {
+        Clause clause;
+        for (; length > 0; length--) clause.push_back(shapes::random_clause(random, variables, 1, positive)[0]);
+        return clause;
+    };
+    if (random.chance(50)) return text_of(random, about_6000(random, variables, make));
+    return text_of(random, Formula{variables, {{1}, make(random.between(MAX_CLAUSE_LENGTH - 1, MAX_CLAUSE_LENGTH + 2)), {-1, 1}}});
 }
 
 inline std::string clauses(Random& random) {
@@ -89,7 +108,7 @@ inline std::string header(Random& random) {
         "p cnf 3\n1", "p\ncnf 3 1", "c only", "c\r\np cnf 3 1", "p cnf 3 1\nc", "\xef\xbb\xbfp cnf 3 1", "p cnf 3 -0", "p cnf -0 1",
     };
     static const std::vector<std::string> bodies = {
-        "1 -2 0\n", "1 -2 0", "1 0 2 0", "1 -4 0\n", "0\n", "1 -1 0\n", "-0 0\n", "\n\n 1\n2\n0\n",
+        "1 -2 0\n", "1 -2 0", "1 0 2 0", "1 -4 0\n", "0\n", "1 -1 0\n", "3 3 -1 0\n", "2 2 -2 0", "-0 0\n", "\n\n 1\n2\n0\n",
     };
     std::string text = random.pick(headers);
     if (random.chance(80)) text += "\n";
@@ -98,7 +117,9 @@ inline std::string header(Random& random) {
 }
 
 inline std::string any(Random& random) {
-    static const std::vector<std::string (*)(Random&)> kinds = {clause_length, literals, clauses, variables, length, header, header, header};
+    static const std::vector<std::string (*)(Random&)> kinds = {
+        clause_length, literals, repeated, repeated, clauses, variables, length, header, header, header,
+    };
     return random.pick(kinds)(random);
 }
 

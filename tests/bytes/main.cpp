@@ -11,6 +11,7 @@
 #include "../support/layout.hpp"
 #include "../support/lines.hpp"
 #include "../support/reader.hpp"
+#include "../support/repeats.hpp"
 #include "../support/shapes.hpp"
 #include "damage.hpp"
 #include "edges.hpp"
@@ -23,6 +24,7 @@ constexpr int CASES = 6000;
 struct Totals {
     long cases = 0, accepted = 0, answers = 0, refused[10] = {};
     size_t longest_book = 0, longest_line = 0;
+    repeats::Tally repeated;
 
     void add(const Case& example, const Reading& reading) {
         cases++;
@@ -30,10 +32,12 @@ struct Totals {
         longest_book = std::max(longest_book, example.book ? example.book->size() : 0);
         if (reading.refusal != 0) return;
         accepted++;
+        repeated.add(reading.written);
         for (const std::string& line : lines_of(example.script)) answers++, longest_line = std::max(longest_line, line.size());
     }
 
     void print(double seconds) const {
+        repeated.print("bytes");
         std::cout << "bytes: " << cases << " cases: " << accepted << " books read, with " << answers << " script lines; refused";
         for (int number = 1; number <= 9; number++) std::cout << " " << number << ": " << refused[number] << (number < 9 ? "," : "");
         std::cout << "; books up to " << longest_book << " bytes, script lines up to " << longest_line << "; "
@@ -42,7 +46,7 @@ struct Totals {
 };
 
 Formula small_formula(Random& random) {
-    return random.chance(70) ? shapes::tiny(random) : shapes::of_case(random.below(100)).make(random);
+    return repeats::any(random, random.chance(70) ? shapes::tiny(random) : shapes::of_case(random.below(100)).make(random));
 }
 
 // A line that is in form, or nearly so.

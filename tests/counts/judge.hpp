@@ -8,6 +8,7 @@
 
 #include "../support/answer.hpp"
 #include "../support/command.hpp"
+#include "always_met.hpp"
 #include "library.hpp"
 #include "numbers.hpp"
 #include "run.hpp"
@@ -71,6 +72,19 @@ inline uint64_t c_answer(const Answer& answer) {
     return kind << 32 | number;
 }
 
+inline uint64_t c_refusal(uint64_t number) { return uint64_t{TARIFF_REFUSED} << 32 | number; }
+
+// A book needs C + L + 4 numbers, of the clauses as they are read; in one fewer it is refused by 10.
+inline void compare_room(Random& random, const Formula& formula, const std::string& text) {
+    const uint8_t* bytes = reinterpret_cast<const uint8_t*>(text.data());
+    size_t needed = static_cast<size_t>(clause_count(formula) + literal_count(formula)) + 4;
+    Lent enough(random, needed), few(random, needed - 1);
+    compare_number(tariff_read(bytes, text.size(), enough.numbers.data(), needed), 0, "reading in numbers", needed);
+    compare_numbers(enough.numbers, book_parts(formula), enough.before);
+    compare_number(tariff_read(bytes, text.size(), few.numbers.data(), needed - 1), c_refusal(10), "reading in numbers", needed - 1);
+    compare_numbers(few.numbers, {}, few.before);
+}
+
 // How a session is looked at: a wrong view changes what is seen.
 using View = std::function<void(Seen&)>;
 
@@ -87,6 +101,18 @@ inline void compare_seen(const Run& run, const Library& library, const View& vie
     for (size_t i = 0; i < TARIFF_FIGURES; i++) compare_number(seen.figures[i], figures[i], "figure", i);
 }
 
+// Every session in which a clause that is always met has a watch, a pointer, a link or a place in a list, or is named, fails the examination.
+inline void compare_always_met(const Run& run, const Library& library) {
+    const Numbers& session = library.lent_session().numbers;
+    size_t i = 0;
+    for (const Numbers& damaged : always_met_damage(run, session))
+        compare_number(library.examine(damaged), c_refusal(12), "answer to a rule that is always met, damage", i++);
+    Numbers counted = session;
+    for (size_t clause = 0; clause < run.clauses.size(); clause++)
+        if (run.formula.clauses[clause].empty()) counted[place_of(run, "checks", clause)] = 0xffffffffu - static_cast<uint32_t>(clause);
+    compare_number(library.examine(counted), TARIFF_FIGURES, "answer to counts of rules that are always met", 0);
+}
+
 inline Answer answer_call(Run& run, const Call& call) { return call.back ? run.backtrack(call.number) : run.decide(call.number); }
 
 // The opening and each call by the library, beside the run; what is seen after each is compared, the book at the end.
@@ -100,6 +126,7 @@ inline void compare_calls(Run& run, Library& library, const std::vector<Call>& c
             compare_seen(run, library, view);
         }
         compare_numbers(library.lent_book().numbers, book_parts(run.formula), library.lent_book().before);
+        compare_always_met(run, library);
     } catch (const Disagreement& disagreement) {
         throw Disagreement("call " + std::to_string(i) + " by the library: " + disagreement.what());
     }

@@ -57,6 +57,12 @@ public:
         return seen;
     }
 
+    // What a call answers that examines these numbers in place of the session's.
+    uint64_t examine(const Numbers& numbers) const {
+        Numbers figures(TARIFF_FIGURES);
+        return tariff_figures(book.numbers.data(), TARIFF_BOOK, numbers.data(), numbers.size(), figures.data(), figures.size());
+    }
+
     size_t required_length() const { return needed; }
     const Lent& lent_book() const { return book; }
     const Lent& lent_session() const { return session; }

@@ -10,6 +10,7 @@
 #include "../support/bench.hpp"
 #include "../support/layout.hpp"
 #include "../support/play.hpp"
+#include "../support/repeats.hpp"
 #include "../support/shapes.hpp"
 #include "../support/totals.hpp"
 #include "judge.hpp"
@@ -33,6 +34,13 @@ void check_listing() {
     if (printed != listing) throw std::runtime_error("the second run does not print document 01's listing");
     if (run.clauses[0].checks != 3 || run.clauses[1].checks != 0 || run.clauses[2].checks != 1)
         throw std::runtime_error("the second run does not count the checks of document 01's listing");
+}
+
+// Clauses are read as K4 says of its examples and of the point `1 1 0`.
+void check_reading() {
+    Formula written{5, {{3, 3, -5}, {3, -3}, {3, 3, -3}, {1, 1}, {4, 2, 4, -1, 2}, {2, 5, -2}}};
+    std::vector<Clause> read{{3, -5}, {}, {}, {1}, {4, 2, -1}, {}};
+    if (as_read(written).clauses != read) throw std::runtime_error("clauses are not read as K4 says");
 }
 
 // The assignment that a run comes to when it is led from its own decisions to others.
@@ -76,7 +84,7 @@ std::vector<Call> calls_of(Random& random, const Formula& formula, const std::st
 }
 
 struct Generated {
-    Formula formula;
+    Formula written, formula;  // as it stands in the book, and as it is read
     Case example;
     std::vector<Call> calls;
     uint64_t seed = 0;  // of the lent memory
@@ -89,8 +97,9 @@ Generated generate(int number, uint64_t seed) {
     const shapes::Shape& shape = is_wide ? wide_shape : shapes::of_case(number / 3 * 2 + number % 3);
     Random random(seed);
     Generated made;
-    made.formula = shape.make(random);
-    std::string book = random.chance(30) ? Layout(random).print(made.formula) : dimacs(made.formula);
+    made.written = repeats::any(random, shape.make(random));
+    made.formula = as_read(made.written);
+    std::string book = random.chance(30) ? Layout(random).print(made.written) : dimacs(made.written);
     Run run(made.formula);
     run.open();
     Player player(random, [&](const std::vector<int>& decisions) { return led_to(run, decisions); }, is_wide ? random.between(0, 40) : 50);
@@ -101,48 +110,51 @@ Generated generate(int number, uint64_t seed) {
     return made;
 }
 
-std::vector<std::string> lines_by(const Generated& made, Fault fault) {
-    Run run(made.formula, fault);
-    return expected_lines(run, made.example.script, [](const Run&, const Answer&) {});
+std::vector<std::string> lines_by(const Formula& formula, Fault fault, const std::string& script) {
+    Run run(formula, fault);
+    return expected_lines(run, script, [](const Run&, const Answer&) {});
 }
 
-// The library beside a run, right or wrong, seen rightly or wrongly.
-void compare_library(const Generated& made, Fault fault, const View& view) {
+// The library beside a run, right or wrong, on the book's formula, read rightly or wrongly, and seen so.
+void compare_library(const Generated& made, const Formula& formula, Fault fault, const View& view) {
     Random random(made.seed);
     Library library(random, *made.example.book);
-    Run run(made.formula, fault);
+    Run run(formula, fault);
     compare_calls(run, library, made.calls, view);
 }
 
-// How often a wrong run or view was noticed: by the numbers after each call, and by the lines alone.
+bool changes_lines(const Wrong& wrong) { return wrong.fault != Fault::NONE || wrong.reading; }
+
+// How often a wrong run, view or reading was noticed: by the numbers after each call, and by the lines alone.
 struct Noticed {
     int by_numbers = 0, by_lines = 0;
 
     void add(const Generated& made, const Wrong& wrong, const std::vector<std::string>& expected) {
+        Formula formula = wrong.reading ? wrong.reading(made.written) : made.formula;
         try {
-            compare_library(made, wrong.fault, wrong.view);
+            compare_library(made, formula, wrong.fault, wrong.view);
         } catch (const Disagreement&) {
             by_numbers++;
         }
-        if (wrong.fault != Fault::NONE && lines_by(made, wrong.fault) != expected) by_lines++;
+        if (changes_lines(wrong) && lines_by(formula, wrong.fault, made.example.script) != expected) by_lines++;
     }
 };
 
-// Every wrong run and every wrong view has to differ from the proved engine in some of the first cases.
+// Every wrong run, view and reading has to differ from the proved engine in some of the first cases.
 void check_wrong(int count) {
     std::vector<Noticed> noticed(wrong_list().size());
     for (int number = 0; number < count; number++) {
         Generated made = generate(number, FIRST_SEED + static_cast<uint64_t>(number));
-        std::vector<std::string> expected = lines_by(made, Fault::NONE);
+        std::vector<std::string> expected = lines_by(made.formula, Fault::NONE, made.example.script);
         for (size_t i = 0; i < noticed.size(); i++) noticed[i].add(made, wrong_list()[i], expected);
     }
-    std::cout << "counts: wrong runs and views noticed, in so many of " << count << " cases:";
+    std::cout << "counts: wrong runs, views and readings noticed, in so many of " << count << " cases:";
     for (size_t i = 0; i < noticed.size(); i++) {
         const Wrong& wrong = wrong_list()[i];
-        bool is_run = wrong.fault != Fault::NONE;
-        if (noticed[i].by_numbers == 0 || (is_run && noticed[i].by_lines == 0)) throw std::runtime_error("not noticed: " + wrong.name);
+        if (noticed[i].by_numbers == 0 || (changes_lines(wrong) && noticed[i].by_lines == 0))
+            throw std::runtime_error("not noticed: " + wrong.name);
         std::cout << (i == 0 ? " " : ", ") << wrong.name << " " << noticed[i].by_numbers;
-        if (is_run) std::cout << " (" << noticed[i].by_lines << " by lines alone)";
+        if (changes_lines(wrong)) std::cout << " (" << noticed[i].by_lines << " by lines alone)";
     }
     std::cout << std::endl;
 }
@@ -153,13 +165,15 @@ struct Work {
 
 void run_case(Bench& bench, int number, uint64_t seed, Totals& totals, Work& work) {
     Generated made = generate(number, seed);
-    totals.add(made.formula);
+    totals.add(made.written);
     Run run(made.formula);
     auto count = [&](const Run& now, const Answer& answer) { totals.add(static_cast<int>(now.starts.size()), answer); };
     std::vector<std::string> expected = expected_lines(run, made.example.script, count);
     bench.run(made.example, [&](const std::string& output) {
         compare_lines(expected, output);
-        compare_library(made, Fault::NONE, [&](Seen& seen) { work.calls++, work.numbers += seen.numbers.size(); });
+        Random random(seed);
+        compare_room(random, made.formula, *made.example.book);
+        compare_library(made, made.formula, Fault::NONE, [&](Seen& seen) { work.calls++, work.numbers += seen.numbers.size(); });
     });
     work.checks += run.total();
 }
@@ -203,6 +217,7 @@ void run_longest(Bench& bench) {
 int test(int argc, char** argv) {
     Bench bench(argc, argv, CASES);
     check_listing();
+    check_reading();
     check_wrong(std::min(bench.case_count(), SELF_CHECKS));
     Totals totals;
     Work work;

@@ -15,7 +15,7 @@
 #include "../support/formula.hpp"
 #include "../support/session.hpp"
 
-// One step taken otherwise than document 01 says.
+// One step taken otherwise than document 01 and K4 say.
 enum class Fault {
     NONE,
     SCANS_FROM_ZERO,     // a scan starts at position 0, not behind the pointer
@@ -24,13 +24,14 @@ enum class Fault {
     MOVES_TO_UNHANDLED,  // a watch moves to a literal that is false but not handled yet
     KEEPS_UNHANDLED,     // unhandled literals stay to be handled over a backtrack
     PUTS_BEHIND,         // a clause goes to the back of a watch list
+    CONTRADICTS_EMPTY,   // a clause of no literals is a conflict at the opening
 };
 
 // A literal as a number: 2 x variable, plus 1 if negative.
 inline uint32_t literal_number(int literal) { return 2 * static_cast<uint32_t>(std::abs(literal)) + (literal < 0 ? 1 : 0); }
 inline int literal_of(uint32_t number) { return number % 2 == 0 ? static_cast<int>(number / 2) : -static_cast<int>(number / 2); }
 
-// What the run keeps of a clause; a clause of one literal has no watches and no pointer.
+// What the run keeps of a clause; a clause of fewer than two literals has no watches and no pointer.
 struct Watched {
     int positions[2] = {0, 0};
     int pointer = 0;
@@ -46,8 +47,10 @@ public:
     Answer open() {
         for (size_t clause = 0; clause < clauses.size(); clause++)
             if (formula.clauses[clause].size() >= 2) watch_first_two(clause);
-        for (size_t clause = 0; clause < clauses.size() && conflict == 0; clause++)
+        for (size_t clause = 0; clause < clauses.size() && conflict == 0; clause++) {
             if (formula.clauses[clause].size() == 1) imply_or_contradict(clause, formula.clauses[clause][0]);
+            if (formula.clauses[clause].empty() && fault == Fault::CONTRADICTS_EMPTY) conflict = clause + 1;
+        }
         propagate();
         return propagated(0, 0);
     }

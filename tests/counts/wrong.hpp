@@ -1,7 +1,8 @@
-// Wrong runs, and wrong views of what the library left, that a comparison must notice.
+// Wrong runs, wrong views of what the library left, and wrong readings of clauses that a comparison must notice.
 #pragma once
 #include <algorithm>
 #include <cstddef>
+#include <functional>
 #include <string>
 #include <utility>
 #include <vector>
@@ -9,10 +10,14 @@
 #include "judge.hpp"
 #include "run.hpp"
 
+// How the run reads a formula as it is written.
+using Reader = std::function<Formula(const Formula&)>;
+
 struct Wrong {
     std::string name;
     Fault fault = Fault::NONE;
     View view = [](Seen&) {};
+    Reader reading = nullptr;  // none: the right one
 };
 
 inline void drop_counts(Seen& seen) { std::fill(seen.counts.begin(), seen.counts.end(), 0u); }
@@ -35,6 +40,50 @@ inline void swap_counts(Seen& seen) {
 // The last of all that were lent.
 inline void change_number(Seen& seen) { seen.numbers.back() ^= 1; }
 
+// A repeated literal wherever it stands.
+inline Clause count_repeated(const Clause& clause) { return both_ways(clause) != 0 ? Clause{} : clause; }
+
+inline Clause at_last_place(const Clause& clause) {
+    Clause reversed = as_read(Clause(clause.rbegin(), clause.rend()));
+    return Clause(reversed.rbegin(), reversed.rend());
+}
+
+inline Clause drop_repeated(const Clause& clause) {
+    Clause kept = as_read(clause);
+    return kept.size() < clause.size() ? Clause{} : kept;
+}
+
+inline Clause imply_one_way(const Clause& clause) { return both_ways(clause) != 0 ? Clause{both_ways(clause)} : as_read(clause); }
+
+// The other literals of a clause with a variable both ways.
+inline Clause drop_variable(const Clause& clause) {
+    Clause kept;
+    for (int literal : clause)
+        if (!stands(clause, -literal)) kept.push_back(literal);
+    return as_read(kept);
+}
+
+inline Reader by_clause(Clause (*read)(const Clause&)) {
+    return [read](Formula formula) {
+        for (Clause& clause : formula.clauses) clause = read(clause);
+        return formula;
+    };
+}
+
+// The clauses behind one with a variable both ways have other numbers.
+inline Formula renumber(const Formula& written) {
+    Formula formula{written.variables, {}};
+    for (const Clause& clause : written.clauses)
+        if (both_ways(clause) == 0) formula.clauses.push_back(as_read(clause));
+    return formula;
+}
+
+inline Wrong wrong_reading(const std::string& name, Reader reading) {
+    Wrong wrong{name};
+    wrong.reading = std::move(reading);
+    return wrong;
+}
+
 inline const std::vector<Wrong>& wrong_list() {
     static const std::vector<Wrong> list = {
         {"no checks counted", Fault::NONE, drop_counts},
@@ -48,6 +97,14 @@ inline const std::vector<Wrong>& wrong_list() {
         {"moves watches to false unhandled literals", Fault::MOVES_TO_UNHANDLED},
         {"keeps unhandled literals over a take-back", Fault::KEEPS_UNHANDLED},
         {"puts rules at the back of watch lists", Fault::PUTS_BEHIND},
+        {"takes rules of no literals for contradictions", Fault::CONTRADICTS_EMPTY},
+        wrong_reading("counts repeated literals as positions", by_clause(count_repeated)),
+        wrong_reading("keeps repeated literals at their last place", by_clause(at_last_place)),
+        wrong_reading("leaves rules with repeated literals out", by_clause(drop_repeated)),
+        wrong_reading("watches rules with a feature both ways", by_clause(first_places)),
+        wrong_reading("forces one literal of a feature both ways", by_clause(imply_one_way)),
+        wrong_reading("takes just the feature both ways out", by_clause(drop_variable)),
+        wrong_reading("gives rules with a feature both ways no number", renumber),
     };
     return list;
 }

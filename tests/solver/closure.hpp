@@ -1,4 +1,4 @@
-// The unit closure of a formula and decisions: as CaDiCaL fixes it, and as a naive loop finds it.
+// The unit closure of a formula as it is written and of decisions: as CaDiCaL fixes it, and as a naive loop finds it.
 #pragma once
 #include <cadical.hpp>
 #include <cstddef>
@@ -37,17 +37,19 @@ inline Assignment cadical_closure(const Formula& formula, const std::vector<int>
 inline bool propagate_once(const Formula& formula, Assignment& closure) {
     bool changed = false;
     for (const Clause& clause : formula.clauses) {
-        int open = 0, last = 0;
-        bool satisfied = false;
+        int last = 0;  // the open literal that was met last, or 0
+        bool satisfied = false, several = false;
         for (int literal : clause) {
             int value = closure.values[std::abs(literal)] * (literal > 0 ? 1 : -1);
             satisfied = satisfied || value > 0;
-            if (value == 0) open++, last = literal;
+            if (value != 0) continue;
+            several = several || (last != 0 && last != literal);
+            last = literal;
         }
-        if (satisfied || open > 1) continue;
-        if (open == 0) closure.conflict = true;
-        if (open == 1) closure.values[std::abs(last)] = last > 0 ? 1 : -1;
-        changed = changed || open == 1;
+        if (satisfied || several) continue;
+        if (last == 0) closure.conflict = true;
+        if (last != 0) closure.values[std::abs(last)] = last > 0 ? 1 : -1;
+        changed = changed || last != 0;
     }
     return changed && !closure.conflict;
 }

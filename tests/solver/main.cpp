@@ -1,4 +1,4 @@
-// Compares what `desk` settles after every line of generated scripts with the unit closure that CaDiCaL fixes.
+// Compares what `desk` settles after every line of generated scripts with the unit closure that CaDiCaL fixes of the clauses as they are written.
 #include <algorithm>
 #include <cstddef>
 #include <cstdint>
@@ -14,6 +14,7 @@
 #include "../support/follow.hpp"
 #include "../support/layout.hpp"
 #include "../support/reader.hpp"
+#include "../support/repeats.hpp"
 #include "../support/shapes.hpp"
 #include "../support/totals.hpp"
 #include "closure.hpp"
@@ -28,7 +29,7 @@ constexpr int SELF_CHECKS = 1500;
 void check_cadical(int count) {
     for (int number = 0; number < count; number++) {
         Random random(FIRST_SEED + static_cast<uint64_t>(number));
-        Formula formula = number % 2 == 0 ? shapes::tiny(random) : shapes::of_case(number).make(random);
+        Formula formula = repeats::any(random, number % 2 == 0 ? shapes::tiny(random) : shapes::of_case(number).make(random));
         std::vector<int> decisions;
         for (int i = random.below(4); i > 0; i--) decisions.push_back(random.sign(random.between(1, formula.variables)));
         Assignment fixed = cadical_closure(formula, decisions), found = naive_closure(formula, decisions);
@@ -39,18 +40,22 @@ void check_cadical(int count) {
               << std::endl;
 }
 
-// The other clauses make every literal of the conflict clause false, or contradict each other.
-void check_conflict_clause(const Formula& formula, const Session& session, int clause) {
-    Assignment others = cadical_closure(formula, session.decisions(), clause);
+// The conflict clause can be false at all, and the other clauses make every literal of it false, or contradict each other.
+void check_conflict_clause(const Formula& written, const Session& session, int clause) {
+    std::vector<int> opposites;
+    for (int literal : written.clauses[clause - 1]) opposites.push_back(-literal);
+    expect(!cadical_closure(Formula{written.variables, {}}, opposites).conflict, "the rule named is met by every setting");
+    Assignment others = cadical_closure(written, session.decisions(), clause);
     if (others.conflict) return;
-    for (int literal : formula.clauses[clause - 1])
+    for (int literal : written.clauses[clause - 1])
         expect(others.values[std::abs(literal)] == (literal > 0 ? -1 : 1), "the rule named is not all false");
 }
 
-void judge(const Formula& formula, const Case& example, const Play& play, const std::string& output, Totals& totals) {
+void judge(const Formula& written, const Case& example, const Play& play, const std::string& output, Totals& totals) {
+    Formula formula = as_read(written);
     follow(formula, example.script, output, [&](size_t i, const Session& session, const Answer& answer) {
         compare(session, *play.after.at(i));
-        if (answer.kind == Answer::CONFLICT) check_conflict_clause(formula, session, answer.clause);
+        if (answer.kind == Answer::CONFLICT) check_conflict_clause(written, session, answer.clause);
         totals.add(session, answer);
     });
 }
@@ -65,16 +70,16 @@ int line_count(Random& random, const Formula& formula) {
 void run_case(Bench& bench, int number, uint64_t seed, Totals& totals) {
     const shapes::Shape& shape = shapes::of_case(number);
     Random random(seed);
-    Formula formula = shape.make(random);
-    std::string book = random.chance(60) ? Layout(random).print(formula) : dimacs(formula);
+    Formula written = repeats::any(random, shape.make(random));
+    std::string book = random.chance(60) ? Layout(random).print(written) : dimacs(written);
     Reading reading = read_formula(book);
-    if (reading.refusal != 0 || reading.formula.clauses != formula.clauses)
+    if (reading.refusal != 0 || reading.written.clauses != written.clauses)
         throw std::runtime_error("a layout is wrong, seed " + std::to_string(seed));
-    Player player(random, [&](const std::vector<int>& decisions) { return cadical_closure(formula, decisions); });
-    Play play = player.write(line_count(random, formula));
+    Player player(random, [&](const std::vector<int>& decisions) { return cadical_closure(written, decisions); });
+    Play play = player.write(line_count(random, written));
     Case example{shape.name, seed, book, play.script, random.chance(20) ? static_cast<size_t>(random.between(1, 50)) : 0};
-    totals.add(formula);
-    bench.run(example, [&](const std::string& output) { judge(formula, example, play, output, totals); });
+    totals.add(written);
+    bench.run(example, [&](const std::string& output) { judge(written, example, play, output, totals); });
 }
 
 // 1,000,000 backtracks are taken, the next is refused by 17.

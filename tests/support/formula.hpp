@@ -1,5 +1,6 @@
-// A formula in conjunctive normal form, the limits of a rule book, and the ceiling of its literal checks.
+// A formula in conjunctive normal form, as written and as read, the limits of a rule book, and the ceiling of its literal checks.
 #pragma once
+#include <algorithm>
 #include <cstddef>
 #include <cstdint>
 #include <cstdlib>
@@ -25,6 +26,33 @@ inline int literal_count(const Formula& formula) {
     size_t count = 0;
     for (const Clause& clause : formula.clauses) count += clause.size();
     return static_cast<int>(count);
+}
+
+inline bool stands(const Clause& clause, int literal) { return std::find(clause.begin(), clause.end(), literal) != clause.end(); }
+
+// Each literal once, at its first place.
+inline Clause first_places(const Clause& written) {
+    Clause kept;
+    for (int literal : written)
+        if (!stands(kept, literal)) kept.push_back(literal);
+    return kept;
+}
+
+// A literal that stands in the clause with its opposite, or 0.
+inline int both_ways(const Clause& clause) {
+    auto found = std::find_if(clause.begin(), clause.end(), [&](int literal) { return stands(clause, -literal); });
+    return found == clause.end() ? 0 : *found;
+}
+
+// A clause as it is read: a repeated literal stands once; with a variable both ways the clause is always met and has no literals.
+inline Clause as_read(const Clause& written) {
+    Clause kept = first_places(written);
+    return both_ways(kept) != 0 ? Clause{} : kept;
+}
+
+inline Formula as_read(Formula formula) {
+    for (Clause& clause : formula.clauses) clause = as_read(clause);
+    return formula;
 }
 
 // The most checks between two backtracks: 2n - 3 for each clause of n >= 2 literals.

@@ -1,4 +1,4 @@
-// A plain reader of rule books, written from document 01: the formula of a text, or the number of its refusal.
+// A plain reader of rule books, written from document 01 and K4: the formula of a text, or the number of its refusal.
 #pragma once
 #include <cstddef>
 #include <cstdlib>
@@ -11,7 +11,8 @@
 
 struct Reading {
     int refusal = 0;
-    Formula formula;
+    Formula written;  // the clauses as they stand in the text
+    Formula formula;  // the clauses as they are read
 };
 
 // A literal, or 0 at the end of a clause; `-0` is no number.
@@ -22,10 +23,10 @@ inline std::optional<int> clause_number(const std::string& word) {
     return -*variable;
 }
 
-// Takes the words behind the header one by one; `refusal` is 0 until the first fault.
+// Takes the words behind the header one by one; `refusal` is 0 until the first fault. Literals are counted as written.
 class BodyReader {
 public:
-    BodyReader(int variables, int clauses) : clauses(clauses), seen(variables + 1, false) { formula.variables = variables; }
+    BodyReader(int variables, int clauses) : clauses(clauses) { written.variables = variables; }
 
     void take(const std::string& word) {
         std::optional<int> number = clause_number(word);
@@ -38,11 +39,11 @@ public:
     }
 
     void end() {
-        if (clause_count(formula) != clauses || !clause.empty()) refusal = 8;
+        if (clause_count(written) != clauses || !clause.empty()) refusal = 8;
     }
 
     int refusal = 0;
-    Formula formula;
+    Formula written;
 
 private:
     void close() {
@@ -50,37 +51,31 @@ private:
             refusal = 6;
             return;
         }
-        formula.clauses.push_back(clause);
+        written.clauses.push_back(clause);
         clause.clear();
-        seen.assign(seen.size(), false);
     }
 
     // At one place the lowest number.
     void extend(int literal) {
-        int variable = std::abs(literal);
-        if (variable > formula.variables)
+        if (std::abs(literal) > written.variables)
             refusal = 5;
         else if (clause.size() == MAX_CLAUSE_LENGTH)
             refusal = 6;
-        else if (seen[variable])
-            refusal = 7;
-        else if (clause_count(formula) == clauses)
+        else if (clause_count(written) == clauses)
             refusal = 8;
         else if (literals == MAX_LITERALS)
             refusal = 9;
         if (refusal != 0) return;
         clause.push_back(literal);
-        seen[variable] = true;
         literals++;
     }
 
     int clauses;
     int literals = 0;
     Clause clause;
-    std::vector<bool> seen;
 };
 
-inline Reading refused(int number) { return Reading{number, {}}; }
+inline Reading refused(int number) { return Reading{number, {}, {}}; }
 
 inline Reading read_formula(const std::string& text) {
     if (text.size() > MAX_TEXT) return refused(1);
@@ -100,5 +95,5 @@ inline Reading read_formula(const std::string& text) {
             if (body.refusal != 0) return refused(body.refusal);
         }
     body.end();
-    return Reading{body.refusal, body.formula};
+    return body.refusal != 0 ? refused(body.refusal) : Reading{0, body.written, as_read(body.written)};
 }

@@ -121,6 +121,7 @@ private:
 
     void contradict(int clause) {
         expect(clause >= 1 && clause <= clause_count(formula), "no such rule: " + std::to_string(clause));
+        expect(!formula.clauses[clause - 1].empty(), "the rule named is always met: " + std::to_string(clause));
         for (int literal : formula.clauses[clause - 1])
             expect(value_of(literal) <= 0, "the rule named is met by " + std::to_string(literal));
         conflict = clause;
