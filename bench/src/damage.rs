@@ -102,6 +102,12 @@ fn counted(variables: usize, clauses: usize, stated: usize, length: usize) -> Ve
     format!("p cnf {variables} {stated}\n{body}").into_bytes()
 }
 
+/// The text of one clause of V 1: its literal and, where it is asked, then its opposite, so many times.
+fn repeated(times: usize, both_ways: bool) -> Vec<u8> {
+    let literals = if both_ways { "1 -1 " } else { "1 " }.repeat(times);
+    format!("p cnf 1 1\n{literals}0\n").into_bytes()
+}
+
 /// Texts on either side of each limit.
 pub fn edges() -> Vec<Vec<u8>> {
     let mut texts = Vec::new();
@@ -109,6 +115,8 @@ pub fn edges() -> Vec<Vec<u8>> {
         texts.push(counted(499 + off, 1, 1, 3));
         texts.push(counted(off, 1, 1, 1));
         texts.push(counted(500, 1, 1, 254 + off));
+        texts.push(repeated(254 + off, false));
+        texts.push(repeated(126 + off, true));
         texts.push(counted(500, 2, 1 + off, 3));
         texts.push(counted(500, 1499 + off, 1499 + off, 4));
         texts.push(counted(500, 1500, 1500, 3 + off));

@@ -55,9 +55,9 @@ impl<'a> Formula<'a> {
     }
 }
 
-/// 1 to 255 literals of the variables, no variable twice; `tag` marks the variables of this clause.
+/// Up to 255 literals of the variables, no variable twice; `tag` marks the variables of this clause.
 fn clause_is_sound(clause: &[u32], variables: usize, tag: u16, marks: &mut [u16; 501]) -> bool {
-    if clause.is_empty() || clause.len() > 255 {
+    if clause.len() > 255 {
         return false;
     }
     for &literal in clause {

@@ -8,14 +8,20 @@ enum Token {
     Close,
 }
 
-/// Clauses read so far.
+/// Clauses read so far. A literal is kept at its first place; a clause with a variable both ways keeps none.
 struct Body<'a> {
     variables: u32,
     clauses: usize,
     closed: usize,
+    /// Literals as written: of the open clause, and of all.
+    length: usize,
+    written: usize,
+    /// Literals kept: of the closed clauses, and with those of the open one.
     first: usize,
-    total: usize,
-    marks: [u16; 501],
+    kept: usize,
+    both_ways: bool,
+    /// By literal: the last clause, from 1, that it stands in.
+    marks: [u16; 1002],
     numbers: &'a mut [u32; MOST_NUMBERS],
 }
 
@@ -44,9 +50,12 @@ fn parse(text: &[u8], numbers: &mut [u32; MOST_NUMBERS]) -> Result<usize, u32> {
         variables,
         clauses: clauses as usize,
         closed: 0,
+        length: 0,
+        written: 0,
         first: 0,
-        total: 0,
-        marks: [0; 501],
+        kept: 0,
+        both_ways: false,
+        marks: [0; 1002],
         numbers,
     };
     while let Some((word, behind)) = next_word(rest) {
@@ -124,48 +133,59 @@ fn token(word: &[u8]) -> Option<Token> {
 
 impl Body<'_> {
     fn close(&mut self) -> Result<(), u32> {
-        if self.first == self.total {
+        if self.length == 0 {
             return Err(6);
         }
+        if self.both_ways {
+            self.kept = self.first;
+        }
         self.closed += 1;
-        self.first = self.total;
-        self.numbers[3 + self.closed] = self.total as u32;
+        self.length = 0;
+        self.first = self.kept;
+        self.both_ways = false;
+        self.numbers[3 + self.closed] = self.kept as u32;
         Ok(())
     }
 
     fn add(&mut self, literal: u32) -> Result<(), u32> {
-        let variable = literal / 2;
-        let tag = self.closed as u16 + 1;
-        if variable > self.variables {
+        if literal / 2 > self.variables {
             return Err(5);
         }
-        if self.total - self.first == 255 {
+        if self.length == 255 {
             return Err(6);
-        }
-        let mark = &mut self.marks[variable as usize];
-        if *mark == tag {
-            return Err(7);
         }
         if self.closed == self.clauses {
             return Err(8);
         }
-        if self.total == 6000 {
+        if self.written == 6000 {
             return Err(9);
         }
-        *mark = tag;
-        self.numbers[self.clauses + 4 + self.total] = literal;
-        self.total += 1;
+        self.length += 1;
+        self.written += 1;
+        self.keep(literal);
         Ok(())
+    }
+
+    /// Keeps a literal of the open clause where it stands there for the first time.
+    fn keep(&mut self, literal: u32) {
+        let tag = self.closed as u16 + 1;
+        if self.marks[literal as usize] == tag {
+            return;
+        }
+        self.marks[literal as usize] = tag;
+        self.both_ways |= self.marks[literal as usize ^ 1] == tag;
+        self.numbers[self.clauses + 4 + self.kept] = literal;
+        self.kept += 1;
     }
 
     /// The header of the book numbers, at the end of the text; the count of all numbers.
     fn finish(self) -> Result<usize, u32> {
-        if self.first != self.total || self.closed != self.clauses {
+        if self.length != 0 || self.closed != self.clauses {
             return Err(8);
         }
         self.numbers[0] = self.variables;
         self.numbers[1] = self.clauses as u32;
-        self.numbers[2] = self.total as u32;
-        Ok(self.clauses + self.total + 4)
+        self.numbers[2] = self.kept as u32;
+        Ok(self.clauses + self.kept + 4)
     }
 }

@@ -85,12 +85,12 @@ fn reasons_pass(formula: &Formula, session: &Shared) -> bool {
     true
 }
 
-/// Two different watches within each clause, the pointer at one of them; zeros for a clause of one literal.
+/// Two different watches within each clause, the pointer at one of them; zeros for a clause of fewer than two literals.
 fn watches_pass(formula: &Formula, session: &Shared) -> bool {
     let cells = session.watches.chunks_exact(2).zip(session.pointers);
     formula.iter().zip(cells).all(|(clause, (watches, &pointer))| {
         let (first, second) = (watches[0], watches[1]);
-        if clause.len() == 1 {
+        if clause.len() < 2 {
             return first == 0 && second == 0 && pointer == 0;
         }
         (first as usize) < clause.len()
@@ -100,7 +100,7 @@ fn watches_pass(formula: &Formula, session: &Shared) -> bool {
     })
 }
 
-/// Every watch stands once in the list of its literal; the nodes of a clause of one literal are in none.
+/// Every watch stands once in the list of its literal; the nodes of a clause of fewer than two literals are in none.
 fn lists_pass(formula: &Formula, session: &Shared) -> bool {
     let mut met = [false; 3000];
     for (literal, &head) in (2..).zip(session.heads) {
@@ -110,7 +110,7 @@ fn lists_pass(formula: &Formula, session: &Shared) -> bool {
                 return false;
             }
             let clause = formula.clause((node - 1) / 2);
-            if clause.len() == 1 || clause[session.watches[node - 1] as usize] != literal {
+            if clause.len() < 2 || clause[session.watches[node - 1] as usize] != literal {
                 return false;
             }
             met[node - 1] = true;
@@ -119,7 +119,7 @@ fn lists_pass(formula: &Formula, session: &Shared) -> bool {
     }
     let nodes = met.chunks_exact(2).zip(session.links.chunks_exact(2));
     formula.iter().zip(nodes).all(|(clause, (met, links))| {
-        if clause.len() == 1 {
+        if clause.len() < 2 {
             links[0] == 0 && links[1] == 0
         } else {
             met[0] && met[1]
@@ -150,22 +150,21 @@ fn fixpoint(formula: &Formula, session: &Shared, limit: u32) -> bool {
     formula
         .iter()
         .zip(session.watches.chunks_exact(2))
-        .all(|(clause, watches)| {
-            if clause.len() == 1 {
-                return level_of(session, limit, clause[0]) == Some(0);
+        .all(|(clause, watches)| match clause {
+            [] => true,
+            &[literal] => level_of(session, limit, literal) == Some(0),
+            _ => {
+                let a = clause[watches[0] as usize];
+                let b = clause[watches[1] as usize];
+                guards(session, limit, a, b) && guards(session, limit, b, a)
             }
-            let a = clause[watches[0] as usize];
-            let b = clause[watches[1] as usize];
-            guards(session, limit, a, b) && guards(session, limit, b, a)
         })
 }
 
-/// The conflict clause is false, and the trail without its top level is at the fixpoint.
+/// The conflict clause has literals, all false, and the trail without its top level is at the fixpoint.
 fn conflict_passes(formula: &Formula, session: &Shared, c: usize) -> bool {
     let decisions = session.header[1];
-    formula
-        .clause(c)
-        .iter()
-        .all(|&literal| level_of(session, u32::MAX, literal ^ 1).is_some())
-        && (decisions == 0 || fixpoint(formula, session, decisions))
+    let clause = formula.clause(c);
+    let is_false = |&literal: &u32| level_of(session, u32::MAX, literal ^ 1).is_some();
+    !clause.is_empty() && clause.iter().all(is_false) && (decisions == 0 || fixpoint(formula, session, decisions))
 }
