@@ -36,9 +36,10 @@ static inline uint32_t tariff_barred(uint32_t feature) { return 2 * feature + 1;
  * NULL, but for a part of length 0. A call writes only what its comment says, and where it refuses, nothing. What a session call is lent is examined first:
  * a book at fault is 11, a session at fault or too short 12. */
 
-/* Reads the text of a rule book into book numbers.
+/* Reads the text of a rule book into book numbers: a repeated literal stands once; a rule with a feature
+ * both ways is always met, and has no literals there.
  * Accepted: 0. Writes the book's numbers, and nothing behind them.
- * Refuses: 1 to 9 for what is wrong in the text, 10 where `book` is too short. */
+ * Refuses: 1 to 6, 8 and 9 for what is wrong in the text, 10 where `book` is too short. */
 uint64_t tariff_read(const uint8_t *text, size_t text_length, uint32_t *book, size_t book_length);
 
 /* How long a session on this book is.
