@@ -11,7 +11,7 @@ extern "C" {
 #define TARIFF_FEATURES 500
 #define TARIFF_RULES 1500
 #define TARIFF_BOOK 7504
-#define TARIFF_SESSION 11504
+#define TARIFF_SESSION 11505
 
 /* An answer is its kind times 2^32, and a number. */
 #define TARIFF_ACCEPTED 0 /* the number is what the call is asked for */
@@ -59,8 +59,18 @@ uint64_t tariff_decide(const uint32_t *book, size_t book_length, uint32_t *sessi
 
 /* Takes the last k choices back, with all that was settled since the first of them; a contradiction is over.
  * Accepted: 0. Writes the session's numbers.
- * Refuses: 11, 12, 16 where k is 0 or over the choices in force, 17 after 1,000,000 take-backs. */
+ * Refuses: 11, 12, 16 where k is 0 or over the choices in force that are not fixed, 17 after 1,000,000 take-backs. */
 uint64_t tariff_backtrack(const uint32_t *book, size_t book_length, uint32_t *session, size_t session_length, uint32_t k);
+
+/* Fixes the first f choices in force: no take-back reaches them any more.
+ * Accepted: 0. Writes the session's numbers.
+ * Refuses: 11, 12, 14 while a contradiction stands, 22 where f is below the choices that are fixed or over those in force. */
+uint64_t tariff_fix(const uint32_t *book, size_t book_length, uint32_t *session, size_t session_length, uint32_t f);
+
+/* How many choices are fixed; 0 when a session is opened.
+ * Accepted: how many. Writes nothing.
+ * Refuses: 11, 12. */
+uint64_t tariff_fixed(const uint32_t *book, size_t book_length, const uint32_t *session, size_t session_length);
 
 /* How a feature is settled, in contradiction too.
  * Accepted: 0 open, 1 wanted, 2 barred. Writes nothing.

@@ -67,6 +67,10 @@ position x (y ∷ xs) h = go (either (eqb x y) (member x xs) h) (position x xs)
 pub member-front : (x : ℕ) (xs : List ℕ) (i : ℕ) → member x (take i xs) ≡ true → member x xs ≡ true
 member-front x xs i m = rw (← take-append-drop i xs, member-append x (take i xs) (drop i xs), m)
 
+-- so does what stands behind them
+pub member-behind : (x : ℕ) (xs : List ℕ) (i : ℕ) → member x (drop i xs) ≡ true → member x xs ≡ true
+member-behind x xs i m = rw (← take-append-drop i xs, member-append x (take i xs) (drop i xs), m) (or-true (member x (take i xs)))
+
 -- what a loop over an index i knows that looks for a number: it is none of the first i, so what follows decides
 pub record Unmet (x : ℕ) (xs : List ℕ) (i : ℕ) : Type 0 where
   pub within : i ≤ length xs

@@ -34,7 +34,7 @@ answerCode (answer.Implied n) = n
 answerCode (answer.Conflict clause) = conflictCode clause
 answerCode (answer.Refused number) = refusalCode number
 
--- backtrack: 0, or the refusal
+-- backtrack and fixing: 0, or the refusal
 abbrev pub backCode : Back → ℕ
 backCode back.Done = 0
 backCode (back.Refused number) = refusalCode number
@@ -46,7 +46,7 @@ assignedCode assigned.Positive = 1
 assignedCode assigned.Negative = 2
 assignedCode (assigned.Refused number) = refusalCode number
 
--- how many numbers there are, or the refusal
+-- how many there are, numbers or fixed decisions, or the refusal
 abbrev pub countCode : Count → ℕ
 countCode (count.Of n) = n
 countCode (count.Refused number) = refusalCode number

@@ -4,7 +4,7 @@ ghost use lib.ListN.{length, set};
 ghost use Rattle.book.specs.Reading.{readText};
 ghost use Rattle.book.specs.Answer.{readAnswer, numbersAfter};
 ghost use Rattle.run.specs.Run.{trailBehind};
-ghost use Rattle.session.specs.Outcomes.{requiredAnswer, openAnswer, openNumbers, decideAnswer, decideNumbers, backtrackAnswer, backtrackNumbers, lookupAnswer, figuresAnswer, totalAnswer, copyAnswer, copyNumbers, checksOfRun};
+ghost use Rattle.session.specs.Outcomes.{requiredAnswer, openAnswer, openNumbers, decideAnswer, decideNumbers, backtrackAnswer, backtrackNumbers, fixAnswer, fixNumbers, fixedAnswer, lookupAnswer, figuresAnswer, totalAnswer, copyAnswer, copyNumbers, checksOfRun};
 ghost use Rattle.capi.specs.Codes.{refusalCode, readingCode, answerCode, backCode, assignedCode, countCode, figuresCode, figuresAfter, sumCode, sumAfter};
 
 fn refusal(number: u32) -> u64
@@ -116,6 +116,23 @@ pub extern "C" fn tariff_backtrack(book: &[u32], session: &mut [u32], k: u32) ->
     ensures { λ r. ⌜ now (session .exit) ≡ backtrackNumbers (now (book .entry)) (now (session .entry)) k ⌝ }
 {
     back_code(session::backtrack(book, session, k))
+}
+
+// Fixes the first f decisions in force.
+#[no_mangle]
+pub extern "C" fn tariff_fix(book: &[u32], session: &mut [u32], f: u32) -> u64
+    ensures { λ r. ⌜ r ≡ backCode (fixAnswer (now (book .entry)) (now (session .entry)) f) ⌝ }
+    ensures { λ r. ⌜ now (session .exit) ≡ fixNumbers (now (book .entry)) (now (session .entry)) f ⌝ }
+{
+    back_code(session::fix(book, session, f))
+}
+
+// How many decisions are fixed.
+#[no_mangle]
+pub extern "C" fn tariff_fixed(book: &[u32], session: &[u32]) -> u64
+    ensures { λ r. ⌜ r ≡ countCode (fixedAnswer (now (book .entry)) (now (session .entry))) ⌝ }
+{
+    count_code(session::fixed(book, session))
 }
 
 // How a variable is assigned.

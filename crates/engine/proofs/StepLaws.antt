@@ -1,4 +1,4 @@
--- The laws of src/lib.rt: an accepted decision and an accepted backtrack over the session's numbers.
+-- The laws of src/lib.rt: an accepted decision, an accepted backtrack and a fixing over the session's numbers.
 use Prim.Native.Nat.{ℕ, suc, _+_, _-_, _≤_, _<_}
 use native.Mathlib.Omega.{arith}
 use mathlib.Core.Bool.{true}
@@ -11,7 +11,7 @@ use Rattle.base.proofs.Bools.{never}
 use Rattle.book.specs.Formula.{Formula, variableOf}
 use Rattle.book.specs.Numbers.{variablesOf, clausesOf, formulaOf}
 use Rattle.run.specs.Trail.{Entry, opposite, cut}
-use Rattle.run.specs.Run.{Run, onTrail, withConflict, propagate, decide, backtrack}
+use Rattle.run.specs.Run.{Run, onTrail, withConflict, propagate, decide, backtrack, fix}
 use Rattle.run.specs.Calls.{decideRefusal, backtrackRefusal, maxBacktracks}
 use Rattle.run.proofs.Trails.{untrue-place}
 use Rattle.run.proofs.Levels.{decided-count}
@@ -19,7 +19,7 @@ use Rattle.book.proofs.SoundLaws.{literal-parts}
 use Rattle.run.specs.Progress.{Watched, Going}
 use Rattle.run.proofs.Propagation.{valid-structure}
 use Rattle.run.proofs.Validity.{Accepted, decision-accepted, decision-going, backtrack-accepted, trail-short}
-use Rattle.layout.specs.Layout.{conflictAt, backtracksAt, watchesAt, trailAt, levelsAt, valuesAt, checksAt, requiredLength, decisionsAt, lengthAt}
+use Rattle.layout.specs.Layout.{conflictAt, backtracksAt, fixedAt, watchesAt, trailAt, levelsAt, valuesAt, checksAt, requiredLength, decisionsAt, lengthAt}
 use Rattle.layout.specs.Encodes.{TrailHeld, WatchesHeld, Encodes}
 use Rattle.engine.specs.Inner.Trail.{assignNums, SameBeside, Cutting}
 use Rattle.engine.specs.Inner.Propagation.{Propagating}
@@ -47,21 +47,23 @@ pub encodes-beside : {formula : Formula} {before after : List ℕ} {run : Run} (
       conflict = run .conflict;
       checks = run .checks;
       backtracks = run .backtracks;
+      fixed = run .fixed;
     })
 encodes-beside {formula} {before} {after} {run} trail w e same held =
     record {
       long = omega (arith, e .long, same .same-length);
       trail = held;
-      conflict = same .conflict ∙ e .conflict;
-      backtracks = same .backtracks ∙ e .backtracks;
+      conflict = same .header conflictAt (omega arith) (omega arith) ∙ e .conflict;
+      backtracks = same .header backtracksAt (omega arith) (omega arith) ∙ e .backtracks;
+      fixed = same .header fixedAt (omega arith) (omega arith) ∙ e .fixed;
       watches =
           held-beside formula before after (run .cells) (run .lists)
           (watched-within formula (run .cells) (run .lists) w) same (e .watches);
       checks = λ c h. same .parts (checksAt (formula .variables) (length (formula .clauses)) + c) (omega arith) ∙ e .checks c h;
     }
 
--- the conflict or the number of backtracks is stored
-trail-stored : {v : ℕ} {numbers : List ℕ} {trail : List Entry} (x value : ℕ) → 2 ≤ x → x < trailAt → TrailHeld v numbers trail
+-- a number of the header behind the trail's two is stored
+trail-stored : {v : ℕ} {numbers : List ℕ} {trail : List Entry} (x value : ℕ) → conflictAt ≤ x → x < trailAt → TrailHeld v numbers trail
     → TrailHeld v (set numbers x value) trail
 trail-stored {v} {numbers} {trail} x value low high k =
     record {
@@ -84,17 +86,42 @@ module _ {formula : Formula} {numbers : List ℕ} {run : Run} (value : ℕ) (w :
   checks-stored x h c k =
       getD-set-other numbers x (checksAt (formula .variables) (length (formula .clauses)) + c) value 0 (λ z. omega arith) ∙ e .checks c k
 
+  -- the run with other numbers behind the trail's two
+  encodes-stored : (x conflict backtracks fixed : ℕ) → conflictAt ≤ x → x < trailAt
+      → getD (set numbers x value) conflictAt 0 ≡ conflict → getD (set numbers x value) backtracksAt 0 ≡ backtracks → getD (set numbers x value) fixedAt 0 ≡ fixed
+      → Encodes formula (set numbers x value)
+      (record {
+        trail = run .trail;
+        cells = run .cells;
+        lists = run .lists;
+        conflict = conflict;
+        checks = run .checks;
+        backtracks = backtracks;
+        fixed = fixed;
+      })
+  encodes-stored x conflict backtracks fixed low high is-conflict is-backtracks is-fixed =
+      record {
+        long = omega (arith, e .long, length-set numbers x value);
+        trail = trail-stored x value low high (e .trail);
+        conflict = is-conflict;
+        backtracks = is-backtracks;
+        fixed = is-fixed;
+        watches = watches-stored x high;
+        checks = checks-stored x high;
+      }
+
+  -- what is read of the number that was stored, and of another one
+  here : (x : ℕ) → x < trailAt → getD (set numbers x value) x 0 ≡ value
+  here x h = getD-set-same numbers x value 0 (omega (arith, e .long))
+
+  elsewhere : (x y : ℕ) → (y ≡ x → ⊥) → {n : ℕ} → getD numbers y 0 ≡ n → getD (set numbers x value) y 0 ≡ n
+  elsewhere x y other is = getD-set-other numbers x y value 0 other ∙ is
+
   pub encodes-conflict : Encodes formula (set numbers conflictAt value) (withConflict value run)
   unfolding withConflict
   encodes-conflict =
-      record {
-        long = omega (arith, e .long, length-set numbers conflictAt value);
-        trail = trail-stored conflictAt value (omega arith) (omega arith) (e .trail);
-        conflict = getD-set-same numbers conflictAt value 0 (omega (arith, e .long));
-        backtracks = getD-set-other numbers conflictAt backtracksAt value 0 (λ z. omega arith) ∙ e .backtracks;
-        watches = watches-stored conflictAt (omega arith);
-        checks = checks-stored conflictAt (omega arith);
-      }
+      encodes-stored conflictAt value (run .backtracks) (run .fixed) (omega arith) (omega arith) (here conflictAt (omega arith))
+      (elsewhere conflictAt backtracksAt (λ z. omega arith) (e .backtracks)) (elsewhere conflictAt fixedAt (λ z. omega arith) (e .fixed))
 
   encodes-backtracks : Encodes formula (set numbers backtracksAt value)
       (record {
@@ -104,16 +131,17 @@ module _ {formula : Formula} {numbers : List ℕ} {run : Run} (value : ℕ) (w :
         conflict = run .conflict;
         checks = run .checks;
         backtracks = value;
+        fixed = run .fixed;
       })
   encodes-backtracks =
-      record {
-        long = omega (arith, e .long, length-set numbers backtracksAt value);
-        trail = trail-stored backtracksAt value (omega arith) (omega arith) (e .trail);
-        conflict = getD-set-other numbers backtracksAt conflictAt value 0 (λ z. omega arith) ∙ e .conflict;
-        backtracks = getD-set-same numbers backtracksAt value 0 (omega (arith, e .long));
-        watches = watches-stored backtracksAt (omega arith);
-        checks = checks-stored backtracksAt (omega arith);
-      }
+      encodes-stored backtracksAt (run .conflict) value (run .fixed) (omega arith) (omega arith)
+      (elsewhere backtracksAt conflictAt (λ z. omega arith) (e .conflict)) (here backtracksAt (omega arith)) (elsewhere backtracksAt fixedAt (λ z. omega arith) (e .fixed))
+
+  encodes-fixed : Encodes formula (set numbers fixedAt value) (fix value run)
+  unfolding fix
+  encodes-fixed =
+      encodes-stored fixedAt (run .conflict) (run .backtracks) value (omega arith) (omega arith)
+      (elsewhere fixedAt conflictAt (λ z. omega arith) (e .conflict)) (elsewhere fixedAt backtracksAt (λ z. omega arith) (e .backtracks)) (here fixedAt (omega arith))
 
 -- The numbers when an accepted decision joined the trail: propagation goes on from there.
 module _ {book numbers : List ℕ} (at : Holding book numbers) (l : ℕ) (accepted : decideRefusal (formulaOf book) l (at .run) ≡ 0) where
@@ -201,7 +229,7 @@ module _ {book numbers : List ℕ} (at : Holding book numbers) (k : ℕ) (accept
         once = at .valid .trail-distinct;
         within = at .valid .trail-within;
         short = trail-short (valid-structure (at .valid) .trailed);
-        enough = backtrack-accepted k (at .run) accepted .1;
+        enough = let room = backtrack-accepted k (at .run) accepted .1 in omega arith;
       })
 
   module _ (variables : ℕ) (after : List ℕ) (v-is : variables ≡ variablesOf book) (same : SameBeside variables numbers after)
@@ -213,7 +241,7 @@ module _ {book numbers : List ℕ} (at : Holding book numbers) (k : ℕ) (accept
     watched = valid-structure (at .valid) .watched
 
     count-same : getD (set after conflictAt 0) backtracksAt 0 ≡ at .run .backtracks
-    count-same = getD-set-other after conflictAt backtracksAt 0 0 (λ z. omega arith) ∙ beside-cut .backtracks ∙ at .encodes .backtracks
+    count-same = getD-set-other after conflictAt backtracksAt 0 0 (λ z. omega arith) ∙ beside-cut .header backtracksAt (omega arith) (omega arith) ∙ at .encodes .backtracks
 
     cut-encodes : (count : ℕ) → count ≡ suc (at .run .backtracks) → Encodes (formulaOf book) (set (set after conflictAt 0) backtracksAt count) (backtrack k (at .run))
     unfolding backtrack withConflict
@@ -233,3 +261,12 @@ module _ {book numbers : List ℕ} (at : Holding book numbers) (k : ℕ) (accept
               ∙ drop-set-lt (requiredLength (variablesOf book) (clausesOf book)) after conflictAt 0 (omega arith)
               ∙ beside-behind beside-cut (requiredLength (variablesOf book) (clausesOf book)) (omega arith);
         }
+
+-- The numbers after a fixing.
+pub fix-done : {book numbers : List ℕ} (at : Holding book numbers) (f : ℕ) → Becomes book numbers (set numbers fixedAt f) (fix f (at .run))
+fix-done {book} {numbers} at f =
+    record {
+      encodes = encodes-fixed f (valid-structure (at .valid) .watched) (at .encodes);
+      same-length = length-set numbers fixedAt f;
+      same-behind = drop-set-lt (requiredLength (variablesOf book) (clausesOf book)) numbers fixedAt f (omega arith);
+    }

@@ -1,4 +1,4 @@
-// The steps of a run on the numbers of a session that are known to hold it: opening, an accepted decision, an accepted backtrack.
+// The steps of a run on the numbers of a session that are known to hold it: opening, an accepted decision, an accepted backtrack, a fixing.
 mod lists;
 mod opening;
 mod propagation;
@@ -10,7 +10,7 @@ ghost use mathlib.Core.Path.{_≡_};
 ghost use Rattle.book.specs.Numbers.{formulaOf};
 ghost use Rattle.layout.specs.Layout.{SessionFits};
 ghost use Rattle.engine.specs.Engine.{Becomes, Holding};
-ghost use Rattle.run.specs.Run.{decide, backtrack};
+ghost use Rattle.run.specs.Run.{decide, backtrack, fix};
 ghost use Rattle.run.specs.Calls.{decideRefusal, backtrackRefusal};
 ghost use Rattle.run.specs.Run as runs;
 use crate::propagation::propagate;
@@ -19,6 +19,7 @@ use crate::trail::cut_levels;
 use layout::offsets::BACKTRACKS;
 use layout::offsets::CONFLICT;
 use layout::offsets::DECISIONS;
+use layout::offsets::FIXED;
 use layout::offsets::LENGTH;
 use layout::offsets::required_length;
 use layout::values::wide;
@@ -58,4 +59,12 @@ pub fn backtrack(book: &[u32], session: &mut [u32], k: u32)
     cut_levels(session, book::variables(book), k);
     session[CONFLICT] = 0;
     session[BACKTRACKS] = session[BACKTRACKS] + 1;
+}
+
+// The first f decisions in force are fixed. Nothing else changes.
+pub fn fix(book: &[u32], session: &mut [u32], f: u32)
+    requires { ⌜ Holding (now book) (now session) ⌝ }
+    ensures { λ r. ⌜ ((at : Holding (now (book .entry)) (now (session .entry))) → Becomes (now (book .entry)) (now (session .entry)) (now (session .exit)) (fix f (at .run))) ⌝ }
+{
+    session[FIXED] = f;
 }

@@ -20,17 +20,18 @@ use Rattle.book.proofs.SoundLaws.{literal-parts}
 use Rattle.run.specs.Progress.{Watched}
 use Rattle.run.proofs.WatchLists.{listed-size, listed-once}
 use Rattle.run.proofs.Propagation.{valid-structure}
-use Rattle.layout.specs.Layout.{trailAt, levelsAt, valuesAt, headsAt, watchesAt, pointersAt, linksAt, checksAt, requiredLength, valueNumber, levelNumber, watchLiteral, nodeOf, headNumber, linkNumber, watchNumber, encode, headSlot, linkSlot, clauseOfNode}
+use Rattle.layout.specs.Layout.{lengthAt, decisionsAt, conflictAt, backtracksAt, fixedAt, trailAt, levelsAt, valuesAt, headsAt, watchesAt, pointersAt, linksAt, checksAt, requiredLength, valueNumber, levelNumber, watchLiteral, nodeOf, headNumber, linkNumber, watchNumber, encode, headSlot, linkSlot, clauseOfNode}
 use Rattle.layout.specs.Encodes.{Chain, nodesOf, Encodes}
 use Rattle.base.proofs.Tables.{length-table, length-table-append, part-table, table-part, table-joined, table-split}
 use Rattle.layout.proofs.ChainLaws.{node-positive, node-within, AtNode, at-node, node-link, chain-head, chain-link, chain-built}
 
--- the four numbers of the header
+-- the numbers of the header
 abbrev headerNumber : Run → ℕ → ℕ
 headerNumber run zero = length (run .trail)
 headerNumber run (suc zero) = length (decisions (run .trail))
 headerNumber run (suc (suc zero)) = run .conflict
-headerNumber run (suc (suc (suc i))) = run .backtracks
+headerNumber run (suc (suc (suc zero))) = run .backtracks
+headerNumber run (suc (suc (suc (suc i)))) = run .fixed
 
 -- the encoding from each part on
 module _ (formula : Formula) (run : Run) where
@@ -64,14 +65,14 @@ module _ (formula : Formula) (run : Run) where
   abbrev fromTrail : List ℕ
   fromTrail = table v (λ (i : ℕ). literalAt (run .trail) (suc i)) ++ fromLevels
 
-  encode-parts : encode formula run ≡ table 4 (headerNumber run) ++ fromTrail
+  encode-parts : encode formula run ≡ table trailAt (headerNumber run) ++ fromTrail
   unfolding encode table
   encode-parts = refl
 
   pub length-encode : length (encode formula run) ≡ requiredLength (formula .variables) (length (formula .clauses))
   length-encode =
       ap length encode-parts
-      ∙ length-table-append 4 (headerNumber run) fromTrail (v + (v + (v + (2 * c + (c + (c + (2 * v + 2 * c)))))))
+      ∙ length-table-append trailAt (headerNumber run) fromTrail (v + (v + (v + (2 * c + (c + (c + (2 * v + 2 * c)))))))
       (length-table-append v _ fromLevels _
       (length-table-append v _ fromValues _
       (length-table-append v _ fromWatches _
@@ -82,7 +83,7 @@ module _ (formula : Formula) (run : Run) where
 
 -- the numbers of each part, one by one
 record Parts (formula : Formula) (numbers : List ℕ) (run : Run) : Type 0 where
-  pub header : (i : ℕ) → i < 4 → getD numbers (0 + i) 0 ≡ headerNumber run i
+  pub header : (i : ℕ) → i < trailAt → getD numbers (0 + i) 0 ≡ headerNumber run i
   pub literals : (i : ℕ) → i < formula .variables → getD numbers (trailAt + i) 0 ≡ literalAt (run .trail) (suc i)
   pub levels : (i : ℕ) → i < formula .variables → getD numbers (levelsAt (formula .variables) + i) 0 ≡ levelNumber (run .trail) (suc i)
   pub values : (i : ℕ) → i < formula .variables → getD numbers (valuesAt (formula .variables) + i) 0 ≡ valueNumber (run .trail) (suc i)
@@ -107,7 +108,7 @@ module _ (formula : Formula) (run : Run) (numbers : List ℕ) (long : requiredLe
 
   parts-encode : Parts formula numbers run → take (requiredLength (formula .variables) (length (formula .clauses))) numbers ≡ encode formula run
   parts-encode p =
-      table-joined numbers 0 4 (5 * vs + 6 * cs) (requiredLength vs cs) trailAt (headerNumber run) (fromTrail formula run) (omega arith) (omega arith) (omega arith) (p .header)
+      table-joined numbers 0 trailAt (5 * vs + 6 * cs) (requiredLength vs cs) trailAt (headerNumber run) (fromTrail formula run) (omega arith) (omega arith) (omega arith) (p .header)
       (table-joined numbers trailAt vs (4 * vs + 6 * cs) (5 * vs + 6 * cs) (levelsAt vs) _ (fromLevels formula run) (omega arith) (omega arith) (omega arith) (p .literals)
       (table-joined numbers (levelsAt vs) vs (3 * vs + 6 * cs) (4 * vs + 6 * cs) (valuesAt vs) _ (fromValues formula run) (omega arith) (omega arith) (omega arith) (p .levels)
       (table-joined numbers (valuesAt vs) vs (2 * vs + 6 * cs) (3 * vs + 6 * cs) (watchesAt vs) _ (fromWatches formula run) (omega arith) (omega arith) (omega arith) (p .values)
@@ -120,7 +121,7 @@ module _ (formula : Formula) (run : Run) (numbers : List ℕ) (long : requiredLe
 
   encode-has : take (requiredLength (formula .variables) (length (formula .clauses))) numbers ≡ encode formula run → Parts formula numbers run
   encode-has e =
-      let a = table-split numbers 0 4 (5 * vs + 6 * cs) (requiredLength vs cs) trailAt (headerNumber run) (fromTrail formula run) (omega arith) (omega arith) (omega arith) (e ∙ encode-parts formula run) in
+      let a = table-split numbers 0 trailAt (5 * vs + 6 * cs) (requiredLength vs cs) trailAt (headerNumber run) (fromTrail formula run) (omega arith) (omega arith) (omega arith) (e ∙ encode-parts formula run) in
       let b = table-split numbers trailAt vs (4 * vs + 6 * cs) (5 * vs + 6 * cs) (levelsAt vs) _ (fromLevels formula run) (omega arith) (omega arith) (omega arith) (a .1) in
       let d = table-split numbers (levelsAt vs) vs (3 * vs + 6 * cs) (4 * vs + 6 * cs) (valuesAt vs) _ (fromValues formula run) (omega arith) (omega arith) (omega arith) (b .1) in
       let f = table-split numbers (valuesAt vs) vs (2 * vs + 6 * cs) (3 * vs + 6 * cs) (watchesAt vs) _ (fromWatches formula run) (omega arith) (omega arith) (omega arith) (d .1) in
@@ -173,12 +174,13 @@ module _ (formula : Formula) (s : sound formula ≡ true) (run : Run) (w : Watch
         checks = e .checks;
       }
     where
-      header : (i : ℕ) → i < 4 → at (0 + i) ≡ headerNumber run i
+      header : (i : ℕ) → i < trailAt → at (0 + i) ≡ headerNumber run i
       header zero h = e .trail .count
       header (suc zero) h = e .trail .decided
       header (suc (suc zero)) h = e .conflict
       header (suc (suc (suc zero))) h = e .backtracks
-      header (suc (suc (suc (suc i)))) h = absurd (omega arith)
+      header (suc (suc (suc (suc zero)))) h = e .fixed
+      header (suc (suc (suc (suc (suc i))))) h = absurd (omega arith)
 
       heads : (i : ℕ) → i < 2 * formula .variables
           → at (headsAt (formula .variables) (length (formula .clauses)) + i) ≡ headNumber formula (run .cells) (run .lists) (i + 2)
@@ -235,14 +237,15 @@ module _ (formula : Formula) (s : sound formula ≡ true) (run : Run) (w : Watch
         long = long;
         trail =
             record {
-              count = p .header 0 (omega arith);
-              decided = p .header 1 (omega arith);
+              count = p .header lengthAt (omega arith);
+              decided = p .header decisionsAt (omega arith);
               literals = p .literals;
               levels = p .levels;
               values = p .values;
             };
-        conflict = p .header 2 (omega arith);
-        backtracks = p .header 3 (omega arith);
+        conflict = p .header conflictAt (omega arith);
+        backtracks = p .header backtracksAt (omega arith);
+        fixed = p .header fixedAt (omega arith);
         watches =
             record { firsts = firsts; seconds = seconds; pointers = p .pointers; in-lists = record { chains = chains; idle = idle } };
         checks = p .checks;

@@ -201,12 +201,12 @@ module _ (formula : Formula) (s : sound formula ≡ true) (numbers : List ℕ) (
           ∙ list-held held (suc (suc i)) (2 * c) (omega arith) (omega arith) (omega arith)
 
 -- all of the run
-same-run : {trail : List Entry} {cells : List Cell} {lists : List (List ℕ)} {conflict : ℕ} {checks : List ℕ} {backtracks : ℕ} (run : Run)
+same-run : {trail : List Entry} {cells : List Cell} {lists : List (List ℕ)} {conflict : ℕ} {checks : List ℕ} {backtracks fixed : ℕ} (run : Run)
     → trail ≡ run .trail → cells ≡ run .cells → lists ≡ run .lists → conflict ≡ run .conflict → checks ≡ run .checks
-    → backtracks ≡ run .backtracks
+    → backtracks ≡ run .backtracks → fixed ≡ run .fixed
     → _≡_ {A = Run}
-    (record { trail = trail; cells = cells; lists = lists; conflict = conflict; checks = checks; backtracks = backtracks }) run
-same-run run a b c d e f = rw (a, b, c, d, e, f)
+    (record { trail = trail; cells = cells; lists = lists; conflict = conflict; checks = checks; backtracks = backtracks; fixed = fixed }) run
+same-run run a b c d e f g = rw (a, b, c, d, e, f, g)
 
 pub structure-held : (formula : Formula) → sound formula ≡ true → (run : Run) → Structure formula run → (numbers : List ℕ)
     → Encodes formula numbers run → held formula numbers ≡ run
@@ -218,6 +218,7 @@ structure-held formula s run structure numbers e =
     (e .conflict)
     (part-list numbers (checksAt v c) c (let long = e .long in omega arith) (run .checks) (structure .counted .checks-length) (e .checks))
     (e .backtracks)
+    (e .fixed)
   where
     v : ℕ
     v = formula .variables

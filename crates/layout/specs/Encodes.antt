@@ -7,7 +7,7 @@ use Rattle.book.specs.Formula.{Formula}
 use Rattle.run.specs.Trail.{Entry, literalAt, decisions}
 use Rattle.run.specs.Scan.{Cell}
 use Rattle.run.specs.Run.{Run, size, listOf, cellAt}
-use Rattle.layout.specs.Layout.{headSlot, linkSlot, lengthAt, decisionsAt, conflictAt, backtracksAt, trailAt, levelsAt, valuesAt, watchesAt, pointersAt, checksAt, requiredLength, valueNumber, levelNumber, nodeOf, clauseOfNode}
+use Rattle.layout.specs.Layout.{headSlot, linkSlot, lengthAt, decisionsAt, conflictAt, backtracksAt, fixedAt, trailAt, levelsAt, valuesAt, watchesAt, pointersAt, checksAt, requiredLength, valueNumber, levelNumber, nodeOf, clauseOfNode}
 
 -- the nodes from a slot on; 0 ends them
 abbrev pub Chain : ℕ → ℕ → List ℕ → ℕ → List ℕ → Type 0
@@ -43,6 +43,7 @@ pub record Encodes (formula : Formula) (numbers : List ℕ) (run : Run) : Type 0
   pub trail : TrailHeld (formula .variables) numbers (run .trail)
   pub conflict : getD numbers conflictAt 0 ≡ run .conflict
   pub backtracks : getD numbers backtracksAt 0 ≡ run .backtracks
+  pub fixed : getD numbers fixedAt 0 ≡ run .fixed
   pub watches : WatchesHeld formula numbers (run .cells) (run .lists)
   pub checks : (c : ℕ) → c < length (formula .clauses)
       → getD numbers (checksAt (formula .variables) (length (formula .clauses)) + c) 0 ≡ getD (run .checks) c 0

@@ -12,7 +12,8 @@ use Rattle.run.specs.Trail.{Entry, place, literalAt, isTrue, decisions, level}
 use Rattle.run.specs.Scan.{Cell}
 use Rattle.run.specs.Run.{cellAt, Run, clauseOf, size, listOf}
 
--- The header: the trail's length, the decisions in force, the conflict clause's name (0 out of conflict), the accepted backtracks.
+-- The header: the trail's length, the decisions in force, the conflict clause's name (0 out of conflict), the accepted backtracks, the fixed
+-- decisions.
 abbrev pub lengthAt : ℕ
 lengthAt = 0
 
@@ -25,10 +26,13 @@ conflictAt = 2
 abbrev pub backtracksAt : ℕ
 backtracksAt = 3
 
+abbrev pub fixedAt : ℕ
+fixedAt = 4
+
 -- Behind it, with v variables and c clauses: trail, levels, values, watches, pointers, checks; the parts of the watch lists, heads and links,
 -- come last.
 abbrev pub trailAt : ℕ
-trailAt = 4
+trailAt = 5
 
 abbrev pub levelsAt : ℕ → ℕ
 levelsAt v = trailAt + v
@@ -137,7 +141,7 @@ watchNumber cells i = cond (eqb (i % 2) 0) (cellAt cells (i / 2) .first) (cellAt
 -- The numbers of a run, part by part.
 unfoldable pub encode : Formula → Run → List ℕ
 encode formula run =
-    length (run .trail) ∷ length (decisions (run .trail)) ∷ run .conflict ∷ run .backtracks
+    length (run .trail) ∷ length (decisions (run .trail)) ∷ run .conflict ∷ run .backtracks ∷ run .fixed
     ∷ (table (formula .variables) (λ (i : ℕ). literalAt (run .trail) (suc i))
     ++ (table (formula .variables) (λ (i : ℕ). levelNumber (run .trail) (suc i))
     ++ (table (formula .variables) (λ (i : ℕ). valueNumber (run .trail) (suc i))
@@ -192,4 +196,5 @@ held formula numbers =
       conflict = getD numbers conflictAt 0;
       checks = take c (drop (checksAt v c) numbers);
       backtracks = getD numbers backtracksAt 0;
+      fixed = getD numbers fixedAt 0;
     }

@@ -16,8 +16,10 @@ pub const CONFLICT: usize = 2;
 
 pub const BACKTRACKS: usize = 3;
 
+pub const FIXED: usize = 4;
+
 // The first literal of the trail.
-pub const TRAIL: usize = 4;
+pub const TRAIL: usize = 5;
 
 pub fn levels_at(variables: usize) -> usize
     requires { ⌜ variables ≤ maxVariables ⌝ }

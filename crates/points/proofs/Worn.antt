@@ -7,6 +7,7 @@ use Rattle.base.specs.Lists.{all, flat, member, distinct}
 use Rattle.book.specs.Formula.{literalWithin, soundClause, sound}
 use Rattle.run.specs.Valid.{Valid}
 use Rattle.run.proofs.Theorems.{reference-valid}
+use Rattle.run.proofs.Validity.{cells-fixpoint}
 use Rattle.points.specs.Points.{listing, calls, runAfter, worn}
 
 listing-sound : sound listing ≡ true
@@ -23,12 +24,13 @@ worn-valid =
       checks-length = valid .checks-length;
       checks-within = valid .checks-within;
       backtracks-within = omega arith;
+      fixed-within = valid .fixed-within;
       trail-distinct = valid .trail-distinct;
       justified = valid .justified;
       watching = valid .watching;
       unwatched = valid .unwatched;
       listed = valid .listed;
-      fixpoint = λ quiet. let s = valid .fixpoint quiet in record { units-true = s .units-true; units-level = s .units-level; watches = s .watches };
+      fixpoint = λ quiet. cells-fixpoint (runAfter 2) (worn 999999) refl (valid .fixpoint quiet);
       conflict-false = valid .conflict-false;
-      fixpoint-below = λ c named some. let s = valid .fixpoint-below c named some in record { units-true = s .units-true; units-level = s .units-level; watches = s .watches };
+      fixpoint-below = λ c named some. cells-fixpoint (runAfter 2) (worn 999999) refl (valid .fixpoint-below c named some);
     }

@@ -1,3 +1,4 @@
 -- The modules of `points`: the table of the marked points, and the points of each change request.
 pub mod Points
 pub mod K4
+pub mod K7

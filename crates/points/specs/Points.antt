@@ -89,6 +89,7 @@ worn n =
       conflict = runAfter 2 .conflict;
       checks = runAfter 2 .checks;
       backtracks = n;
+      fixed = runAfter 2 .fixed;
     }
 
 -- the session that holds it, in just the required length

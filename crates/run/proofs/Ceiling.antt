@@ -11,7 +11,7 @@ use lib.ListN.{length, getD}
 use borrow.Author.Tests.{leb-false, leb-true}
 use Rattle.base.proofs.Lists.{getD-alike}
 use Rattle.book.specs.Formula.{Formula, sound}
-use Rattle.run.specs.Run.{Run, clauseOf, size, cellOf, maxCount, onTrail, withConflict, fresh, backtrack}
+use Rattle.run.specs.Run.{Run, clauseOf, size, cellOf, maxCount, onTrail, withConflict, fresh, backtrack, fix}
 use Rattle.run.specs.Calls.{Call, stepAll, reference}
 use Rattle.run.specs.Valid.{Valid}
 use Rattle.run.specs.Ceiling.{checksOf, countBefore, checksSince, ceiling}
@@ -20,7 +20,7 @@ use Rattle.run.proofs.ScanLaws.{pointer-within}
 use Rattle.run.proofs.Opening.{fresh-watched}
 use Rattle.run.proofs.Theorems.{reference-valid}
 use Rattle.run.proofs.CeilingClause.{spending-begins}
-use Rattle.run.proofs.CeilingRun.{InPeriod, spends, period-within, period-grows, period-conflict, period-visit, visit-backtracks, visit-checks, added-grows, added-elsewhere}
+use Rattle.run.proofs.CeilingRun.{InPeriod, spends, period-within, period-grows, period-conflict, period-fix, period-visit, visit-backtracks, visit-checks, added-grows, added-elsewhere}
 use Rattle.run.proofs.RunInduction.{Keeps, calls-keep, reference-keeps}
 
 fresh-checks : (formula : Formula) (c : ℕ) → checksOf (fresh formula) c ≡ 0
@@ -45,7 +45,7 @@ fresh-within formula ok c many =
     (omega (arith, fresh-checks formula c)))
 
 within-ceiling-kept : (formula : Formula) → sound formula ≡ true → (c : ℕ) → 2 ≤ size formula c → Keeps formula c (WithinCeiling formula c)
-unfolding onTrail withConflict backtrack
+unfolding onTrail withConflict backtrack fix
 within-ceiling-kept formula ok c many =
     record {
       at-literal = λ before l decided run w.
@@ -60,6 +60,7 @@ within-ceiling-kept formula ok c many =
       at-backtrack = λ before k run valid accepted w.
           begins-within formula c (backtrack k run) (pointer-within (size formula c) (cellOf run c) (valid .watching c many))
           (rw mul-suc (omega (arith, w .periods-before, period-within formula c before run many (w .period))));
+      at-fix = λ before f run w. record { period = period-fix formula c before f run (w .period); periods-before = w .periods-before };
     }
 
 reference-within : (formula : Formula) → sound formula ≡ true → (calls : List Call) (c : ℕ) → 2 ≤ size formula c
@@ -84,7 +85,7 @@ ceiling-in-all formula ok calls c many =
 
 -- a count never falls
 grows-kept : (formula : Formula) (c : ℕ) → Keeps formula c (λ before run. before ≤ checksOf run c)
-unfolding onTrail withConflict backtrack
+unfolding onTrail withConflict backtrack fix
 grows-kept formula c =
     record {
       at-literal = λ before l decided run h. h;
@@ -93,6 +94,7 @@ grows-kept formula c =
           visit-checks formula q d run (λ checks. before ≤ getD checks c 0) h
           (λ made. omega (arith, added-grows (run .checks) c d made (structure .counted .checks-within c)));
       at-backtrack = λ before k run valid accepted h. omega arith;
+      at-fix = λ before f run h. h;
     }
 
 pub count-before-within : (formula : Formula) → sound formula ≡ true → (calls : List Call) (c : ℕ)
@@ -106,7 +108,7 @@ checks-by-period formula ok calls c = omega (arith, count-before-within formula 
 
 -- a clause of one literal or of none is never visited: its count stays
 count-kept : (formula : Formula) (c n : ℕ) → size formula c < 2 → Keeps formula c (λ before run. checksOf run c ≡ n)
-unfolding onTrail withConflict backtrack
+unfolding onTrail withConflict backtrack fix
 count-kept formula c n few =
     record {
       at-literal = λ before l decided run h. h;
@@ -114,6 +116,7 @@ count-kept formula c n few =
       at-visit = λ before q d run quiet structure v h. visit-checks formula q d run (λ checks. getD checks c 0 ≡ n) h
           (λ made. added-elsewhere (run .checks) c d made (λ same. absurd (omega (arith, v .two, ap (λ x. size formula x) same))) ∙ h);
       at-backtrack = λ before k run valid accepted h. h;
+      at-fix = λ before f run h. h;
     }
 
 pub unscanned-cost-nothing : (formula : Formula) → sound formula ≡ true → (calls : List Call) (c : ℕ) → size formula c < 2

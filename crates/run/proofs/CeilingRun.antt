@@ -12,7 +12,7 @@ use borrow.Author.Tests.{eqb-true, eqb-false, ne-eqb}
 use Rattle.base.proofs.Bools.{never}
 use Rattle.base.proofs.Lists.{getD-set-cases}
 use Rattle.book.specs.Formula.{Formula}
-use Rattle.run.specs.Run.{Run, clauseOf, size, noCell, cellOf, maxCount, addChecks, moved, Action, stays, moves, implies, conflicts, action, onTrail, withWatches, withConflict, counted, performAction, visit, inConflict}
+use Rattle.run.specs.Run.{Run, clauseOf, size, noCell, cellOf, maxCount, addChecks, moved, Action, stays, moves, implies, conflicts, action, onTrail, withWatches, withConflict, counted, performAction, visit, inConflict, fix}
 use Rattle.run.specs.Ceiling.{checksOf, ceiling}
 use Rattle.run.specs.Progress.{Structure}
 use Rattle.run.proofs.Clauses.{clause-exists}
@@ -67,6 +67,11 @@ pub period-conflict : (formula : Formula) (c before d : ℕ) (run : Run) → 2 �
     → InPeriod formula c before (withConflict (suc d) run)
 unfolding withConflict
 period-conflict formula c before d run h p = stopped (rw (ne-eqb (suc d) 0 (λ g. omega arith))) (period-within formula c before run h p)
+
+pub period-fix : (formula : Formula) (c before f : ℕ) (run : Run) → InPeriod formula c before run → InPeriod formula c before (fix f run)
+unfolding fix
+period-fix formula c before f run (spends s) = spends s
+period-fix formula c before f run (stopped t few) = stopped t few
 
 -- the clause itself is visited
 visited-itself : (formula : Formula) (c before q : ℕ) (run : Run) → c < length (run .cells) → (a : Action)

@@ -186,6 +186,7 @@ fresh-opened formula s =
                   checks-within = λ c. rw (getD-alike {A = ℕ} (length (formula .clauses)) c 0) (omega arith);
                   backtracks-within = omega arith;
                 };
+            fixed-within = omega arith;
           };
       quiet = refl;
       undecided = refl;
@@ -227,7 +228,7 @@ module _ (formula : Formula) (s : sound formula ≡ true) (c : ℕ) (run : Run) 
   conflict-ended one f =
       record {
         valid =
-            structure-valid (record { watched = o .structure .watched; trailed = o .structure .trailed; counted = o .structure .counted })
+            structure-valid (record { watched = o .structure .watched; trailed = o .structure .trailed; counted = o .structure .counted; fixed-within = o .structure .fixed-within })
             (λ z. absurd (omega arith))
             (λ d z. rw (same d z) (omega arith, λ m k. rw (only clause one m k) f))
             (λ d z some. absurd (omega (arith, o .undecided)));
@@ -249,6 +250,7 @@ module _ (formula : Formula) (s : sound formula ≡ true) (c : ℕ) (run : Run) 
                   trailed-push e (o .structure .trailed) (literal-within formula s c 0 (omega arith)) off
                   (untrue-place (run .trail) (opposite l) f) (λ z. reason);
               counted = o .structure .counted;
+              fixed-within = omega (arith, o .structure .fixed-within, o .undecided);
             };
         quiet = o .quiet;
         undecided = ⊎-elim (λ p. absurd (never (p .0) refl)) (λ p. p .1 ∙ o .undecided) (decided-count e (run .trail));

@@ -160,6 +160,7 @@ valid-structure v =
             checks-within = v .checks-within;
             backtracks-within = v .backtracks-within;
           };
+      fixed-within = v .fixed-within;
     }
 
 -- the counts after some more checks
@@ -209,6 +210,7 @@ structure-valid s fixpoint conflict-false fixpoint-below =
       checks-length = s .counted .checks-length;
       checks-within = s .counted .checks-within;
       backtracks-within = s .counted .backtracks-within;
+      fixed-within = s .fixed-within;
       trail-distinct = s .trailed .once;
       justified = s .trailed .justified;
       watching = s .watched .watching;

@@ -11,8 +11,8 @@ use borrow.Author.Tests.{eqb-true}
 use Rattle.base.proofs.Bools.{never}
 use Rattle.book.specs.Formula.{Formula, sound}
 use Rattle.run.specs.Trail.{isTrue, isFalse}
-use Rattle.run.specs.Run.{Run, listOf, onTrail, withConflict, visit, inConflict, propagate, fresh, assignUnit, assignUnits, openRun, decide, backtrack}
-use Rattle.run.specs.Calls.{Call, decision, backtrackBy, decideRefusal, backtrackRefusal, refusal, performCall, step, stepAll, reference}
+use Rattle.run.specs.Run.{Run, listOf, onTrail, withConflict, visit, inConflict, propagate, fresh, assignUnit, assignUnits, openRun, decide, backtrack, fix}
+use Rattle.run.specs.Calls.{Call, decision, backtrackBy, fixBy, decideRefusal, backtrackRefusal, fixRefusal, refusal, performCall, step, stepAll, reference}
 use Rattle.run.specs.Valid.{Valid}
 use Rattle.run.specs.Ceiling.{checksOf, countAtLatest, countBefore}
 use Rattle.run.specs.Progress.{Structure, Going, Ended, ReadingList}
@@ -21,7 +21,7 @@ use Rattle.run.proofs.Propagation.{quiet-out}
 use Rattle.run.proofs.Visits.{Seen, seen, visit-outcome}
 use Rattle.run.proofs.Validity.{reading-begins, reading-ends, short, decision-accepted, decision-going}
 use Rattle.run.proofs.Opening.{opening-state}
-use Rattle.run.proofs.Theorems.{open-valid, decide-valid, backtrack-valid}
+use Rattle.run.proofs.Theorems.{open-valid, decide-valid, backtrack-valid, fix-valid, by-number}
 
 -- What every step keeps of a run, in a period that began with a count of clause c.
 pub record Keeps (formula : Formula) (c : ℕ) (K : ℕ → Run → Type 0) : Type 0 where
@@ -31,6 +31,7 @@ pub record Keeps (formula : Formula) (c : ℕ) (K : ℕ → Run → Type 0) : Ty
       → K before (visit formula q d run)
   pub at-backtrack : (before k : ℕ) (run : Run) → Valid formula run → backtrackRefusal k run ≡ 0 → K before run
       → K (checksOf run c) (backtrack k run)
+  pub at-fix : (before f : ℕ) (run : Run) → K before run → K before (fix f run)
 
 module _ (formula : Formula) (ok : sound formula ≡ true) (c : ℕ) (K : ℕ → Run → Type 0) (keeps : Keeps formula c K) where
   -- propagation keeps it
@@ -114,15 +115,13 @@ module _ (formula : Formula) (ok : sound formula ≡ true) (c : ℕ) (K : ℕ �
   unfolding countAtLatest stepAll step refusal performCall
   calls-keep [] before run v k = k
   calls-keep (decision l ∷ calls) before run v k =
-      go (eqb (decideRefusal formula l run) 0) refl (λ next. calls-keep calls before next)
-    where
-      go : (t : Bool) → eqb (decideRefusal formula l run) 0 ≡ t
-          → ((next : Run) → Valid formula next → K before next → K (countAtLatest formula c before next calls) (stepAll formula next calls))
-          → K (countAtLatest formula c before (cond t (decide formula l run) run) calls) (stepAll formula (cond t (decide formula l run) run) calls)
-      go true e later =
-          let accepted : decideRefusal formula l run ≡ 0 = eqb-true (decideRefusal formula l run) 0 e in
-          later (decide formula l run) (decide-valid formula l run ok v accepted) (decide-keeps before l run accepted v k)
-      go false e later = later run v k
+      by-number (λ next. K (countAtLatest formula c before next calls) (stepAll formula next calls)) (decideRefusal formula l run) (decide formula l run) run
+      (λ z. calls-keep calls before (decide formula l run) (decide-valid formula l run ok v z) (decide-keeps before l run z v k))
+      (calls-keep calls before run v k)
+  calls-keep (fixBy f ∷ calls) before run v k =
+      by-number (λ next. K (countAtLatest formula c before next calls) (stepAll formula next calls)) (fixRefusal f run) (fix f run) run
+      (λ z. calls-keep calls before (fix f run) (fix-valid formula f run v z) (keeps .at-fix before f run k))
+      (calls-keep calls before run v k)
   calls-keep (backtrackBy m ∷ calls) before run v k =
       go (eqb (backtrackRefusal m run) 0) refl (λ count next. calls-keep calls count next)
     where

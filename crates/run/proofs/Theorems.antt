@@ -14,13 +14,13 @@ use Rattle.base.proofs.ForAll.{member-times}
 use Rattle.book.specs.Formula.{Formula, positive, sound}
 use Rattle.run.specs.Trail.{Entry, place, isTrue, isFalse, isAssigned, isMet, variablesOn, decisions, cut}
 use Rattle.run.specs.Scan.{Cell}
-use Rattle.run.specs.Run.{Run, clauseOf, size, noCell, cellOf, listOf, Action, moves, action, onTrail, inConflict, propagateFrom, fresh, assignUnits, openRun, decide, backtrack}
-use Rattle.run.specs.Calls.{Call, decision, backtrackBy, decideRefusal, backtrackRefusal, refusal, performCall, step, stepAll, reference}
+use Rattle.run.specs.Run.{Run, clauseOf, size, noCell, cellOf, listOf, Action, moves, action, onTrail, inConflict, propagateFrom, fresh, assignUnits, openRun, decide, backtrack, fix}
+use Rattle.run.specs.Calls.{Call, decision, backtrackBy, fixBy, decideRefusal, backtrackRefusal, fixRefusal, refusal, performCall, step, stepAll, reference}
 use Rattle.run.specs.Valid.{Valid}
 use Rattle.run.specs.Closure.{Closure, UnitClosed, Contains, BothWays}
 use Rattle.run.proofs.ScanLaws.{scan-found}
 use Rattle.run.proofs.Growth.{Grown, same, grown-by, grown-decisions, grown-longer, grown-gains, units-grow, propagating-grows}
-use Rattle.run.proofs.Validity.{propagated, fuel-enough, decision-accepted, decision-going, decided-valid, backtrack-accepted, backtracked-valid}
+use Rattle.run.proofs.Validity.{propagated, fuel-enough, decision-accepted, decision-going, decided-valid, backtrack-accepted, backtracked-valid, fix-accepted, fixed-valid}
 use Rattle.run.proofs.Opening.{opening-state}
 use Rattle.run.proofs.ClosureLaws.{closure-within, closure-holds, closure-closed, closure-grows, assigned-closure, conflict-both-ways}
 use Rattle.run.proofs.MetLaws.{all-met}
@@ -40,26 +40,34 @@ pub backtrack-valid : (formula : Formula) (k : ℕ) (run : Run) → sound formul
     → Valid formula (backtrack k run)
 backtrack-valid formula k run s v z = let a = backtrack-accepted k run z in backtracked-valid k run v (a .0) (a .1) (a .2)
 
+pub fix-valid : (formula : Formula) (f : ℕ) (run : Run) → Valid formula run → fixRefusal f run ≡ 0 → Valid formula (fix f run)
+fix-valid formula f run v z = fixed-valid f run v (fix-accepted f run z .2)
+
 perform-valid : (formula : Formula) (run : Run) → sound formula ≡ true → (call : Call) → Valid formula run → refusal formula call run ≡ 0
     → Valid formula (performCall formula call run)
 unfolding performCall refusal
 perform-valid formula run s (decision l) v z = decide-valid formula l run s v z
 perform-valid formula run s (backtrackBy k) v z = backtrack-valid formula k run s v z
+perform-valid formula run s (fixBy f) v z = fix-valid formula f run v z
+
+-- what holds after a call, by its number: where that is 0 the call is performed, else nothing changes
+pub by-number : (P : Run → Type 0) (number : ℕ) (after run : Run) → (number ≡ 0 → P after) → P run → P (cond (eqb number 0) after run)
+by-number P number after run accepted refused = go (eqb number 0) refl
+  where
+    go : (b : Bool) → eqb number 0 ≡ b → P (cond b after run)
+    go true e = accepted (eqb-true number 0 e)
+    go false e = refused
 
 pub step-valid : (formula : Formula) (run : Run) → sound formula ≡ true → (call : Call) → Valid formula run
     → Valid formula (step formula run call)
 unfolding step
-step-valid formula run s call v = go (eqb (refusal formula call run) 0) refl
-  where
-    go : (b : Bool) → eqb (refusal formula call run) 0 ≡ b → Valid formula (cond b (performCall formula call run) run)
-    go true e = perform-valid formula run s call v (eqb-true (refusal formula call run) 0 e)
-    go false e = v
+step-valid formula run s call v = by-number (Valid formula) (refusal formula call run) (performCall formula call run) run (perform-valid formula run s call v) v
 
 pub step-refused : (formula : Formula) (run : Run) (call : Call) → (refusal formula call run ≡ 0 → ⊥) → step formula run call ≡ run
 unfolding step
 step-refused formula run call n = rw (ne-eqb (refusal formula call run) 0 n)
 
-all-valid : (formula : Formula) → sound formula ≡ true → (calls : List Call) (run : Run) → Valid formula run
+pub all-valid : (formula : Formula) → sound formula ≡ true → (calls : List Call) (run : Run) → Valid formula run
     → Valid formula (stepAll formula run calls)
 unfolding stepAll
 all-valid formula s [] run v = v
@@ -137,7 +145,7 @@ pub decide-gains : (formula : Formula) (l : ℕ) (run : Run) → distinct (varia
 decide-gains formula l run = grown-gains (decide-grown formula l run)
 
 -- A decision puts its literal and implied ones on the trail and changes nothing before them. A backtrack of k leaves the trail up to
--- before the k-th last decision, moves no watch, pointer or list, makes no check, ends a conflict, and counts one.
+-- before the k-th last decision, moves no watch, pointer or list, makes no check, ends a conflict, counts one, and leaves how many are fixed.
 pub decide-extends : (formula : Formula) (l : ℕ) (run : Run)
     → (new : List Entry)
     × (all (λ (e : Entry). not (e .decided)) new ≡ true)
@@ -151,10 +159,11 @@ pub backtrack-keeps : (k : ℕ) (run : Run)
     × (backtrack k run .checks ≡ run .checks)
     × (backtrack k run .conflict ≡ 0)
     × (backtrack k run .backtracks ≡ suc (run .backtracks))
+    × (backtrack k run .fixed ≡ run .fixed)
     × (decisions (cut k (run .trail)) ≡ drop k (decisions (run .trail)))
     × ((left : List Entry) × (run .trail ≡ left ++ cut k (run .trail)))
 unfolding backtrack
-backtrack-keeps k run = (refl, refl, refl, refl, refl, refl, cut-decisions k (run .trail), suffix-append (cut-suffix k (run .trail)))
+backtrack-keeps k run = (refl, refl, refl, refl, refl, refl, refl, cut-decisions k (run .trail), suffix-append (cut-suffix k (run .trail)))
 
 -- Valid runs of one formula with the same decisions in force, in any order, agree.
 pub same-decisions-agree : (formula : Formula) (a b : Run) → sound formula ≡ true → Valid formula a → Valid formula b

@@ -7,7 +7,7 @@ use mathlib.Core.Logic.{_⊎_, inl, inr, ⊎-elim}
 use mathlib.Core.Path.{_≡_, refl, sym, _∙_}
 use borrow.Author.Tests.{eqb-true, eq-eqb, le-leb, leb-true, leb-false, not-false}
 use lib.Dec.{leb, eqb}
-use lib.ListN.{length, length-map}
+use lib.ListN.{length, length-map, length-drop}
 use Rattle.base.specs.Lists.{distinct, times}
 use Rattle.base.proofs.Bools.{and-parts, never, neither-left, neither-right}
 use Rattle.base.proofs.Pigeonhole.{pigeonhole}
@@ -15,16 +15,16 @@ use Rattle.book.specs.Formula.{Formula, variableOf, literalWithin, sound}
 use Rattle.book.proofs.SoundLaws.{literal-parts}
 use Rattle.run.specs.Trail.{Entry, opposite, place, literalAt, isTrue, isFalse, isAssigned, decisions, lowered, cut, variablesOn}
 use Rattle.run.specs.Scan.{Cell}
-use Rattle.run.specs.Run.{Run, size, listOf, onTrail, visit, inConflict, propagateFrom, propagate, decide, backtrack}
-use Rattle.run.specs.Calls.{decideRefusal, backtrackRefusal, maxBacktracks}
-use Rattle.run.specs.Valid.{one, Justified, Valid}
+use Rattle.run.specs.Run.{Run, size, listOf, onTrail, visit, inConflict, propagateFrom, propagate, decide, backtrack, fix}
+use Rattle.run.specs.Calls.{decideRefusal, backtrackRefusal, fixRefusal, maxBacktracks}
+use Rattle.run.specs.Valid.{one, Justified, Fixpoint, Valid}
 use Rattle.run.specs.Progress.{secondLiteral, firstLiteral, among, Guard, BothGuarded, Pending, Trailed, Going, Ended, ReadingList}
 use Rattle.run.proofs.Trails.{untrue-place, place-of-literal, place-injective, variable-on, place-true}
 use Rattle.run.proofs.Inductions.{read-induction, nextRead, readNext, propagate-induction, enough-fuel}
 use Rattle.run.proofs.Propagation.{pending-push, pending-lowered, unfixed, valid-structure, quiet-out, going-valid, trailed-push}
 use Rattle.run.proofs.Visits.{visit-outcome}
 use Rattle.run.proofs.Opposites.{opposite-opposite, opposite-injective}
-use Rattle.run.proofs.Levels.{Suffix, whole, newer, suffix-distinct, lowered-cases, lowered-suffix, lowered-count, suffix-true, cut-suffix}
+use Rattle.run.proofs.Levels.{Suffix, whole, newer, suffix-distinct, lowered-cases, lowered-suffix, lowered-count, suffix-true, cut-suffix, cut-decisions, decided-count}
 
 -- the trail holds no more literals than there are variables
 pub trail-short : {formula : Formula} {trail : List Entry} → Trailed formula trail → length trail ≤ formula .variables
@@ -169,6 +169,7 @@ decision-going {formula} {l} {run} v a =
             watched = valid-structure v .watched;
             trailed = trailed-push e (valid-structure v .trailed) (a .literal-within) off off′ (λ z. absurd (never refl z));
             counted = valid-structure v .counted;
+            fixed-within = ⊎-elim (λ p. omega (arith, v .fixed-within)) (λ p. omega (arith, v .fixed-within)) (decided-count e (run .trail));
           };
       quiet = a .quiet;
       pending = pending-push e off (omega arith) low (unfixed run (v .trail-distinct) (v .fixpoint (a .quiet)));
@@ -224,21 +225,21 @@ pending-below {formula} {run} v some = go (run .conflict) refl
 
 -- what an accepted backtrack says
 pub backtrack-accepted : (k : ℕ) (run : Run) → backtrackRefusal k run ≡ 0
-    → (1 ≤ k) × (k ≤ length (decisions (run .trail))) × (run .backtracks < maxBacktracks)
+    → (1 ≤ k) × (k + run .fixed ≤ length (decisions (run .trail))) × (run .backtracks < maxBacktracks)
 unfolding backtrackRefusal
-backtrack-accepted k run z = go (leb 1 k && leb k (length (decisions (run .trail)))) refl (leb maxBacktracks (run .backtracks)) refl z
+backtrack-accepted k run z = go (leb 1 k && leb (k + run .fixed) (length (decisions (run .trail)))) refl (leb maxBacktracks (run .backtracks)) refl z
   where
-    go : (w : Bool) → (leb 1 k && leb k (length (decisions (run .trail)))) ≡ w → (b : Bool) → leb maxBacktracks (run .backtracks) ≡ b
-        → _≡_ {A = ℕ} (cond w (cond b 17 0) 16) 0 → (1 ≤ k) × (k ≤ length (decisions (run .trail))) × (run .backtracks < maxBacktracks)
+    go : (w : Bool) → (leb 1 k && leb (k + run .fixed) (length (decisions (run .trail)))) ≡ w → (b : Bool) → leb maxBacktracks (run .backtracks) ≡ b
+        → _≡_ {A = ℕ} (cond w (cond b 17 0) 16) 0 → (1 ≤ k) × (k + run .fixed ≤ length (decisions (run .trail))) × (run .backtracks < maxBacktracks)
     go true p false q z = (
-      leb-true 1 k (and-parts (leb 1 k) (leb k (length (decisions (run .trail)))) p .0),
-      leb-true k (length (decisions (run .trail))) (and-parts (leb 1 k) (leb k (length (decisions (run .trail)))) p .1),
+      leb-true 1 k (and-parts (leb 1 k) (leb (k + run .fixed) (length (decisions (run .trail)))) p .0),
+      leb-true (k + run .fixed) (length (decisions (run .trail))) (and-parts (leb 1 k) (leb (k + run .fixed) (length (decisions (run .trail)))) p .1),
       leb-false maxBacktracks (run .backtracks) q,
     )
     go true p true q z = absurd (omega arith)
     go false p b q z = absurd (omega arith)
 
-pub backtracked-valid : {formula : Formula} (k : ℕ) (run : Run) → Valid formula run → 1 ≤ k → k ≤ length (decisions (run .trail))
+pub backtracked-valid : {formula : Formula} (k : ℕ) (run : Run) → Valid formula run → 1 ≤ k → k + run .fixed ≤ length (decisions (run .trail))
     → run .backtracks < maxBacktracks
     → Valid formula (backtrack k run)
 unfolding backtrack cut
@@ -252,6 +253,7 @@ backtracked-valid {formula} (suc k) run v one most few =
             trailed = trailed-older (cut-suffix (suc k) (run .trail)) (valid-structure v .trailed);
             counted =
                 record { checks-length = v .checks-length; checks-within = v .checks-within; backtracks-within = few };
+            fixed-within = rw (cut-decisions (suc k) (run .trail), length-drop) (omega arith);
           };
       quiet = refl;
       pending =
@@ -260,3 +262,44 @@ backtracked-valid {formula} (suc k) run v one most few =
           (pending-below v (omega arith));
     })
     (omega arith)
+
+-- what an accepted fixing says, and what it leaves
+pub fix-accepted : (f : ℕ) (run : Run) → fixRefusal f run ≡ 0
+    → (run .conflict ≡ 0) × (run .fixed ≤ f) × (f ≤ length (decisions (run .trail)))
+unfolding fixRefusal
+fix-accepted f run z = go (inConflict run) refl (leb (run .fixed) f && leb f (length (decisions (run .trail)))) refl z
+  where
+    go : (c : Bool) → inConflict run ≡ c → (w : Bool) → (leb (run .fixed) f && leb f (length (decisions (run .trail)))) ≡ w
+        → _≡_ {A = ℕ} (cond c 14 (cond w 0 22)) 0 → (run .conflict ≡ 0) × (run .fixed ≤ f) × (f ≤ length (decisions (run .trail)))
+    go false q true p z = (
+      eqb-true (run .conflict) 0 (not-false (eqb (run .conflict) 0) q),
+      leb-true (run .fixed) f (and-parts (leb (run .fixed) f) (leb f (length (decisions (run .trail)))) p .0),
+      leb-true f (length (decisions (run .trail))) (and-parts (leb (run .fixed) f) (leb f (length (decisions (run .trail)))) p .1),
+    )
+    go false q false p z = absurd (omega arith)
+    go true q w p z = absurd (omega arith)
+
+-- of a run's parts a fixpoint is about the cells alone
+pub cells-fixpoint : {formula : Formula} {trail : List Entry} (old new : Run) → new .cells ≡ old .cells → Fixpoint formula old trail → Fixpoint formula new trail
+cells-fixpoint old new same h = record { units-true = h .units-true; units-level = h .units-level; watches = rw same (h .watches) }
+
+pub fixed-valid : {formula : Formula} (f : ℕ) (run : Run) → Valid formula run → f ≤ length (decisions (run .trail)) → Valid formula (fix f run)
+unfolding fix
+fixed-valid f run v h =
+    record {
+      trail-within = v .trail-within;
+      cells-length = v .cells-length;
+      lists-length = v .lists-length;
+      checks-length = v .checks-length;
+      checks-within = v .checks-within;
+      backtracks-within = v .backtracks-within;
+      fixed-within = h;
+      trail-distinct = v .trail-distinct;
+      justified = v .justified;
+      watching = v .watching;
+      unwatched = v .unwatched;
+      listed = v .listed;
+      fixpoint = λ quiet. cells-fixpoint run (fix f run) refl (v .fixpoint quiet);
+      conflict-false = v .conflict-false;
+      fixpoint-below = λ c named some. cells-fixpoint run (fix f run) refl (v .fixpoint-below c named some);
+    }

@@ -176,6 +176,7 @@ module _ (formula : Formula) (s : sound formula ≡ true) (handled q c : ℕ) (u
                         (here .in-list) position within free;
                     trailed = r .going .structure .trailed;
                     counted = checks-added c made (r .going .structure .counted);
+                    fixed-within = r .going .structure .fixed-within;
                   };
               quiet = r .going .quiet;
               pending =
@@ -264,6 +265,7 @@ module _ (formula : Formula) (s : sound formula ≡ true) (handled q c : ℕ) (u
                     watched = r .going .structure .watched;
                     trailed = trailed-push e (r .going .structure .trailed) other-within off off′ (λ z. reason);
                     counted = checks-added c made (r .going .structure .counted);
+                    fixed-within = omega (arith, r .going .structure .fixed-within, count-same);
                   };
               quiet = r .going .quiet;
               pending = pending-push e off (omega (arith, handled-within)) (rw lowered-same (r .going .pending .low)) (r .going .pending);
@@ -327,6 +329,7 @@ module _ (formula : Formula) (s : sound formula ≡ true) (handled q c : ℕ) (u
               watched = r .going .structure .watched;
               trailed = r .going .structure .trailed;
               counted = checks-added c made (r .going .structure .counted);
+              fixed-within = r .going .structure .fixed-within;
             })
             (λ z. absurd (omega arith))
             (λ d z. rw (same d z) (omega (arith, here .two), clause-false))

@@ -6,7 +6,7 @@ use lib.Dec.{eqb}
 use lib.ListN.{getD}
 use Rattle.book.specs.Formula.{Formula}
 use Rattle.run.specs.Run.{Run, openRun}
-use Rattle.run.specs.Calls.{Call, decision, backtrackBy, backtrackRefusal, step, reference}
+use Rattle.run.specs.Calls.{Call, decision, backtrackBy, fixBy, backtrackRefusal, step, reference}
 
 abbrev pub checksOf : Run → ℕ → ℕ
 checksOf run c = getD (run .checks) c 0
@@ -20,6 +20,7 @@ countAtLatest formula c count run (backtrackBy k ∷ calls) =
     (cond (eqb (backtrackRefusal k run) 0) (checksOf run c) count)
     (step formula run (backtrackBy k))
     calls
+countAtLatest formula c count run (fixBy f ∷ calls) = countAtLatest formula c count (step formula run (fixBy f)) calls
 
 -- The checks of clause c when the period began: at the latest accepted backtrack, or 0, as the opening began, where there is none.
 abbrev pub countBefore : Formula → ℕ → List Call → ℕ

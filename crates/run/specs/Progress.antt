@@ -75,6 +75,7 @@ pub record Structure (formula : Formula) (run : Run) : Type 0 where
   pub watched : Watched formula (run .cells) (run .lists)
   pub trailed : Trailed formula (run .trail)
   pub counted : Counted formula (run .checks) (run .backtracks)
+  pub fixed-within : run .fixed ≤ length (decisions (run .trail))
 
 -- Propagation with `handled` literals handled; and ended in a conflict.
 pub record Going (formula : Formula) (handled : ℕ) (run : Run) : Type 0 where

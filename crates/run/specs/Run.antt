@@ -1,4 +1,4 @@
--- The state of the reference run (the paper's written run) and its steps: opening, propagation (settling), decision (choice), backtrack (take-back).
+-- The state of the reference run (the paper's written run) and its steps: opening, propagation (settling), decision (choice), backtrack (take-back), fixing.
 use Prim.Native.Nat.{ℕ, zero, suc, _+_, _*_, min}
 use mathlib.Core.Bool.{Bool, true, false, cond, not}
 use mathlib.Core.List.{List, [], _∷_, map}
@@ -11,6 +11,7 @@ use Rattle.run.specs.Trail.{Entry, opposite, isTrue, isFalse, literalAt,
 use Rattle.run.specs.Scan.{Cell, Scanned, scan}
 
 -- Clauses are numbered from 0 here. The conflict (contradiction) is 0 where there is none, else the conflict clause's name, which counts from 1.
+-- `fixed` is how many decisions are fixed (the paper's f): the oldest ones in force.
 pub record Run : Type 0 where
   pub trail : List Entry
   pub cells : List Cell
@@ -18,6 +19,7 @@ pub record Run : Type 0 where
   pub conflict : ℕ
   pub checks : List ℕ
   pub backtracks : ℕ
+  pub fixed : ℕ
 
 abbrev pub clauseOf : Formula → ℕ → List ℕ
 clauseOf formula c = getD (formula .clauses) c []
@@ -90,6 +92,7 @@ onTrail l decided run =
       conflict = run .conflict;
       checks = run .checks;
       backtracks = run .backtracks;
+      fixed = run .fixed;
     }
 
 unfoldable pub withWatches : List Cell → List (List ℕ) → Run → Run
@@ -101,6 +104,7 @@ withWatches cells lists run =
       conflict = run .conflict;
       checks = run .checks;
       backtracks = run .backtracks;
+      fixed = run .fixed;
     }
 
 unfoldable pub withConflict : ℕ → Run → Run
@@ -112,6 +116,7 @@ withConflict name run =
       conflict = name;
       checks = run .checks;
       backtracks = run .backtracks;
+      fixed = run .fixed;
     }
 
 unfoldable pub counted : ℕ → ℕ → Run → Run
@@ -123,6 +128,7 @@ counted c made run =
       conflict = run .conflict;
       checks = addChecks (run .checks) c made;
       backtracks = run .backtracks;
+      fixed = run .fixed;
     }
 
 unfoldable pub performAction : Formula → ℕ → ℕ → Action → Run → Run
@@ -186,6 +192,7 @@ fresh formula =
       conflict = 0;
       checks = replicate (length (formula .clauses)) 0;
       backtracks = 0;
+      fixed = 0;
     }
 
 -- a clause of one literal implies it; if it is already true nothing happens, and if it is false, that is a conflict
@@ -209,7 +216,8 @@ openRun formula = propagate formula 0 (assignUnits 0 (formula .clauses) (fresh f
 unfoldable pub decide : Formula → ℕ → Run → Run
 decide formula l run = propagate formula (length (run .trail)) (onTrail l true run)
 
--- Take-back of k: the last k decisions and all after the first of them leave the trail. Watches, pointers and lists stay. A conflict is over.
+-- Take-back of k: the last k decisions and all after the first of them leave the trail. Watches, pointers, lists and what is fixed stay. A conflict
+-- is over.
 unfoldable pub backtrack : ℕ → Run → Run
 backtrack k run =
     record {
@@ -219,4 +227,18 @@ backtrack k run =
       conflict = 0;
       checks = run .checks;
       backtracks = suc (run .backtracks);
+      fixed = run .fixed;
+    }
+
+-- Fixing the first f decisions in force: nothing else changes.
+unfoldable pub fix : ℕ → Run → Run
+fix f run =
+    record {
+      trail = run .trail;
+      cells = run .cells;
+      lists = run .lists;
+      conflict = run .conflict;
+      checks = run .checks;
+      backtracks = run .backtracks;
+      fixed = f;
     }

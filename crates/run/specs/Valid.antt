@@ -68,6 +68,8 @@ pub record Valid (formula : Formula) (run : Run) : Type 0 where
   pub checks-length : length (run .checks) ≡ length (formula .clauses)
   pub checks-within : (c : ℕ) → getD (run .checks) c 0 ≤ maxCount
   pub backtracks-within : run .backtracks ≤ maxBacktracks
+  -- no more decisions are fixed than are in force
+  pub fixed-within : run .fixed ≤ length (decisions (run .trail))
   -- no variable is twice on the trail
   pub trail-distinct : distinct (map (λ (e : Entry). variableOf (e .literal)) (run .trail)) ≡ true
   pub justified : Justified formula (run .trail)

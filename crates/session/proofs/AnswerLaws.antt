@@ -1,13 +1,14 @@
 -- Decision, backtrack, lookup and what only reads, way out by way out: the refusals in their order, and what an accepted call answers and leaves.
 use Rattle.run.proofs.Opposites.{opposite-positive}
-use Rattle.layout.specs.Layout.{lengthAt, decisionsAt, conflictAt, backtracksAt, requiredLength, held}
+use Rattle.layout.specs.Layout.{lengthAt, decisionsAt, conflictAt, backtracksAt, fixedAt, requiredLength, held}
 use Rattle.book.specs.Formula.{maxVariables, literalWithin}
-use Rattle.session.proofs.PassedLaws.{refused-first, none-first, well, own-refusal, facts, holding, long, conflict-is, decisions-are, count-is, count-within, backtracks-are}
+use Rattle.session.proofs.PassedLaws.{refused-first, none-first, well, own-refusal, facts, holding, long, conflict-is, decisions-are, count-is, count-within, backtracks-are, fixed-are}
 use Rattle.session.proofs.OpenLaws.{head-answer, becomes-overwritten}
 use Prim.Native.Nat.{ℕ, suc, _+_, _*_, _≤_, _<_}
 use mathlib.Core.Path.{_≡_, refl, sym, _∙_}
 use mathlib.Core.Bool.{and-false, Bool, true, false, cond, _&&_, _||_}
 use mathlib.Core.List.{List}
+use mathlib.Core.Logic.{_⊎_, inl, inr, ⊎-elim}
 use native.Mathlib.Omega.{arith}
 use borrow.Author.Tests.{eq-eqb, ne-eqb, le-leb, lt-leb}
 use lib.Dec.{leb}
@@ -18,6 +19,7 @@ use Rattle.run.specs.Trail.{isTrue, isFalse, decisions}
 use Rattle.run.specs.Run.{Run, decide, backtrack}
 use Rattle.run.specs.Calls.{decideRefusal, backtrackRefusal, maxBacktracks}
 use Rattle.run.proofs.Theorems.{decide-valid, backtrack-valid, decide-longer}
+use Rattle.run.proofs.Fixed.{none-or-over-16}
 use Rattle.validation.specs.Validation.{readRefusal}
 use Rattle.session.specs.Outcomes.{sessionDecideRefusal, decideAnswer, decideNumbers, sessionBacktrackRefusal, backtrackAnswer, backtrackNumbers, lookupRefusal, lookupAnswer, figuresAnswer, totalAnswer, copyAnswer, copyNumbers}
 use Rattle.layout.specs.Values.{valueIn}
@@ -86,22 +88,18 @@ module _ (book session : List ℕ) where
             go false false p q z = absurd (n z)
 
     -- a backtrack, refusal by refusal
-    pub back-none : (k : ℕ) → k ≡ 0 → 16 ≡ sessionBacktrackRefusal book session k
-    unfolding sessionBacktrackRefusal backtrackRefusal
-    back-none k z = sym (own-refusal book session none (backtrackRefusal k) ∙ rw (lt-leb 1 k (omega arith)))
-
-    pub back-over : (k : ℕ) → getD session decisionsAt 0 < k → 16 ≡ sessionBacktrackRefusal book session k
-    unfolding sessionBacktrackRefusal backtrackRefusal
-    back-over k h =
+    pub back-none-or-over : (k : ℕ) → (k ≡ 0) ⊎ (getD session decisionsAt 0 < k + getD session fixedAt 0) → 16 ≡ sessionBacktrackRefusal book session k
+    unfolding sessionBacktrackRefusal
+    back-none-or-over k h =
         sym (own-refusal book session none (backtrackRefusal k)
-        ∙ rw (lt-leb k (length (decisions (held (formulaOf book) session .trail))) (omega (arith, decisions-are book session none)), and-false (leb 1 k)))
+        ∙ none-or-over-16 k (held (formulaOf book) session) (⊎-elim inl (λ over. inr (rw (decisions-are book session none, fixed-are book session none) at over)) h))
 
-    module _ (k : ℕ) (some : k ≡ 0 → ⊥) (in-force : k ≤ getD session decisionsAt 0) where
+    module _ (k : ℕ) (some : k ≡ 0 → ⊥) (free : k + getD session fixedAt 0 ≤ getD session decisionsAt 0) where
       back-by : (b : Bool) → leb maxBacktracks (held (formulaOf book) session .backtracks) ≡ b → sessionBacktrackRefusal book session k ≡ cond b 17 0
       unfolding sessionBacktrackRefusal backtrackRefusal
       back-by b e =
           own-refusal book session none (backtrackRefusal k)
-          ∙ rw (le-leb 1 k (omega (arith, some)), le-leb k (length (decisions (held (formulaOf book) session .trail))) (omega (arith, decisions-are book session none)), e)
+          ∙ rw (le-leb 1 k (omega (arith, some)), le-leb (k + held (formulaOf book) session .fixed) (length (decisions (held (formulaOf book) session .trail))) (omega (arith, some, decisions-are book session none, fixed-are book session none)), e)
 
       pub back-spent : maxBacktracks ≤ getD session backtracksAt 0 → 17 ≡ sessionBacktrackRefusal book session k
       back-spent h = sym (back-by true (le-leb maxBacktracks (held (formulaOf book) session .backtracks) (omega (arith, backtracks-are book session none))))

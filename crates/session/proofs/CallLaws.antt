@@ -11,13 +11,13 @@ use lib.Seq.{drop-at}
 use Rattle.book.specs.Formula.{Formula}
 use Rattle.book.specs.Numbers.{variablesOf, clausesOf, wellFormed, formulaOf}
 use Rattle.book.proofs.WellFormedLaws.{well-formed-sound}
-use Rattle.run.specs.Run.{Run, openRun, decide, backtrack}
-use Rattle.run.specs.Calls.{Call, decision, backtrackBy, decideRefusal, backtrackRefusal, refusal, performCall, step, stepAll, reference}
+use Rattle.run.specs.Run.{Run, openRun, decide, backtrack, fix}
+use Rattle.run.specs.Calls.{Call, decision, backtrackBy, fixBy, decideRefusal, backtrackRefusal, fixRefusal, refusal, performCall, step, stepAll, reference}
 use Rattle.run.specs.Valid.{Valid}
 use Rattle.run.proofs.Theorems.{open-valid, step-valid}
 use Rattle.layout.specs.Layout.{SessionFits, requiredLength, encode, held}
 use Rattle.validation.specs.Validation.{passes, callRefusal}
-use Rattle.session.specs.Outcomes.{accepted, refused, sessionAfter, overwritten, openRefusal, openNumbers, sessionDecideRefusal, decideNumbers, sessionBacktrackRefusal, backtrackNumbers, callNumbers, playedNumbers, replayNumbers}
+use Rattle.session.specs.Outcomes.{accepted, refused, sessionAfter, overwritten, openRefusal, openNumbers, sessionDecideRefusal, decideNumbers, sessionBacktrackRefusal, backtrackNumbers, sessionFixRefusal, fixNumbers, callNumbers, playedNumbers, replayNumbers}
 use Rattle.layout.proofs.EncodeLaws.{length-encode}
 use Rattle.layout.proofs.HeldLaws.{held-encode}
 use Rattle.validation.proofs.PassLaws.{passes-encode}
@@ -51,13 +51,16 @@ module _ (book buffer : List ℕ) (well : wellFormed book ≡ true) (run : Run) 
   chosen false number next = refl
 
   pub call-numbers : (call : Call) → callNumbers book (overwritten (formulaOf book) run buffer) call ≡ overwritten (formulaOf book) (step (formulaOf book) run call) buffer
-  unfolding callNumbers decideNumbers sessionDecideRefusal backtrackNumbers sessionBacktrackRefusal step refusal performCall
+  unfolding callNumbers decideNumbers sessionDecideRefusal backtrackNumbers sessionBacktrackRefusal fixNumbers sessionFixRefusal step refusal performCall
   call-numbers (decision l) =
       rw (call-refusal (decideRefusal (formulaOf book) l), held-overwritten)
       (chosen (eqb (decideRefusal (formulaOf book) l run) 0) (decideRefusal (formulaOf book) l run) (decide (formulaOf book) l run))
   call-numbers (backtrackBy k) =
       rw (call-refusal (backtrackRefusal k), held-overwritten)
       (chosen (eqb (backtrackRefusal k run) 0) (backtrackRefusal k run) (backtrack k run))
+  call-numbers (fixBy f) =
+      rw (call-refusal (fixRefusal f), held-overwritten)
+      (chosen (eqb (fixRefusal f run) 0) (fixRefusal f run) (fix f run))
 
 pub played : (book buffer : List ℕ) → wellFormed book ≡ true → (calls : List Call) (run : Run) → Valid (formulaOf book) run
     → playedNumbers book (overwritten (formulaOf book) run buffer) calls ≡ overwritten (formulaOf book) (stepAll (formulaOf book) run calls) buffer

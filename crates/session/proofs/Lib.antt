@@ -6,4 +6,5 @@ pub mod AnswerLaws
 pub mod ReportLaws
 pub mod Statements
 pub mod TextLaws
+pub mod FixedDecisions
 pub mod ReplayLaws

@@ -1,5 +1,5 @@
 -- A session that passes: 11 and 12 come first, and what is read in its numbers is what the run that it holds has.
-use Rattle.layout.specs.Layout.{Fits, TrailFits, SessionFits, lengthAt, decisionsAt, conflictAt, backtracksAt, trailAt, requiredLength, checksAt, held, valueSlot}
+use Rattle.layout.specs.Layout.{Fits, TrailFits, SessionFits, lengthAt, decisionsAt, conflictAt, backtracksAt, fixedAt, trailAt, requiredLength, checksAt, held, valueSlot}
 use Rattle.book.specs.Formula.{maxVariables, maxClauses, variableOf}
 use Rattle.layout.proofs.FitsLaws.{held-fits, session-fits, session-trail-fits}
 use Rattle.layout.proofs.ValueLaws.{held-value}
@@ -128,6 +128,9 @@ module _ (book session : List ℕ) where
 
     pub backtracks-are : getD session backtracksAt 0 ≡ held (formulaOf book) session .backtracks
     backtracks-are = facts .1 .backtracks
+
+    pub fixed-are : getD session fixedAt 0 ≡ held (formulaOf book) session .fixed
+    fixed-are = facts .1 .fixed
 
     pub figures-are : shown.Of (getD session decisionsAt 0) (getD session backtracksAt 0) (getD session lengthAt 0) (getD session conflictAt 0) ≡ figuresAnswer book session
     unfolding figuresAnswer

@@ -9,12 +9,16 @@ use borrow.Author.Tests.{eq-eqb, ne-eqb}
 use lib.Dec.{eqb}
 use lib.ListN.{length, getD, drop, length-drop}
 use lib.Seq.{drop-cons}
-use Rattle.run.specs.Calls.{Call, decision, backtrackBy}
-use Rattle.session.specs.Outcomes.{callsOf, decideNumbers, backtrackNumbers, callNumbers, playedNumbers}
+use Rattle.run.specs.Calls.{Call, decision, backtrackBy, fixBy}
+use Rattle.session.specs.Outcomes.{callsOf, decideNumbers, backtrackNumbers, fixNumbers, callNumbers, playedNumbers}
 
 -- two numbers a call
-pub calls-more : (calls : List ℕ) (i : ℕ) → i + 1 < length calls
-    → callsOf (drop i calls) ≡ cond (eqb (getD calls i 0) 0) (decision (getD calls (i + 1) 0)) (backtrackBy (getD calls (i + 1) 0)) ∷ callsOf (drop (i + 2) calls)
+abbrev callAt : List ℕ → ℕ → Call
+callAt calls i =
+    cond (eqb (getD calls i 0) 0) (decision (getD calls (i + 1) 0))
+    (cond (eqb (getD calls i 0) 2) (fixBy (getD calls (i + 1) 0)) (backtrackBy (getD calls (i + 1) 0)))
+
+pub calls-more : (calls : List ℕ) (i : ℕ) → i + 1 < length calls → callsOf (drop i calls) ≡ callAt calls i ∷ callsOf (drop (i + 2) calls)
 unfolding callsOf
 calls-more calls i h =
     let two : drop i calls ≡ getD calls i 0 ∷ getD calls (i + 1) 0 ∷ drop (i + 2) calls
@@ -40,7 +44,7 @@ pub replaying-none : (book calls opened : List ℕ) → Replaying book calls ope
 replaying-none book calls opened = record { within = omega arith; same-length = refl; same = refl }
 
 module _ (book calls opened session next : List ℕ) (i : ℕ) (r : Replaying book calls opened session i) (h : i + 1 < length calls) (l : length next ≡ length session) where
-  step : (call : Call) → cond (eqb (getD calls i 0) 0) (decision (getD calls (i + 1) 0)) (backtrackBy (getD calls (i + 1) 0)) ≡ call → next ≡ callNumbers book session call
+  step : (call : Call) → callAt calls i ≡ call → next ≡ callNumbers book session call
       → Replaying book calls opened next (i + 2)
   unfolding playedNumbers
   step call k e =
@@ -54,9 +58,14 @@ module _ (book calls opened session next : List ℕ) (i : ℕ) (r : Replaying bo
   unfolding callNumbers
   replaying-decision k e = step (decision (getD calls (i + 1) 0)) (rw (eq-eqb (getD calls i 0) 0 k)) e
 
-  pub replaying-backtrack : (getD calls i 0 ≡ 0 → ⊥) → next ≡ backtrackNumbers book session (getD calls (i + 1) 0) → Replaying book calls opened next (i + 2)
-  unfolding callNumbers
-  replaying-backtrack k e = step (backtrackBy (getD calls (i + 1) 0)) (rw (ne-eqb (getD calls i 0) 0 k)) e
+  module _ (other : getD calls i 0 ≡ 0 → ⊥) where
+    pub replaying-fixing : getD calls i 0 ≡ 2 → next ≡ fixNumbers book session (getD calls (i + 1) 0) → Replaying book calls opened next (i + 2)
+    unfolding callNumbers
+    replaying-fixing k e = step (fixBy (getD calls (i + 1) 0)) (rw (ne-eqb (getD calls i 0) 0 other, eq-eqb (getD calls i 0) 2 k)) e
+
+    pub replaying-backtrack : (getD calls i 0 ≡ 2 → ⊥) → next ≡ backtrackNumbers book session (getD calls (i + 1) 0) → Replaying book calls opened next (i + 2)
+    unfolding callNumbers
+    replaying-backtrack k e = step (backtrackBy (getD calls (i + 1) 0)) (rw (ne-eqb (getD calls i 0) 0 other, ne-eqb (getD calls i 0) 2 k)) e
 
 pub replaying-all : (book calls opened session : List ℕ) (i : ℕ) → Replaying book calls opened session i → length calls ≤ i + 1 → session ≡ playedNumbers book opened (callsOf calls)
 unfolding playedNumbers

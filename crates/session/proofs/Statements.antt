@@ -22,7 +22,7 @@ use Rattle.run.specs.Valid.{Valid}
 use Rattle.run.proofs.Theorems.{open-valid, decide-valid, backtrack-valid, step-valid, reference-valid, assigned-is-closure, conflict-is-both-ways, conflict-clause-false, always-met-idle, always-met-never-named, backtrack-keeps, nothing-open-all-met}
 use Rattle.run.proofs.Ceiling.{ceiling-in-period, ceiling-in-all, checks-by-period, counts-never-saturate, unscanned-cost-nothing, unscanned-count}
 use Rattle.layout.specs.Layout.{requiredLength, maxSession, held}
-use Rattle.session.specs.Outcomes.{outcome, countOf, overwritten, requiredAnswer, totalAnswer, openAnswer, openNumbers, openRefusal, sessionDecideRefusal, decideAnswer, decideNumbers, backtrackNumbers, lookupRefusal, lookupAnswer, callNumbers, replayNumbers}
+use Rattle.session.specs.Outcomes.{outcome, countOf, overwritten, requiredAnswer, totalAnswer, fixedAnswer, openAnswer, openNumbers, openRefusal, sessionDecideRefusal, decideAnswer, decideNumbers, backtrackNumbers, lookupRefusal, lookupAnswer, callNumbers, replayNumbers}
 use Rattle.validation.specs.Validation.{readRefusal}
 use Rattle.session.specs.Statement.{Statement2, OpenReported, DecideReported, Replayed}
 use Rattle.session.specs.declared.Sum.the-variants.{Checks}
@@ -54,7 +54,7 @@ module _ (book session : List ℕ) (e : readRefusal book session ≡ 0) (v : ℕ
       let none = consistent trail (positive v) once (true-place trail (positive v) t) in
       never f (place-untrue trail (negative v) (ap (place trail) (sym (opposite-positive v)) ∙ none))
 
-  shows-positive : (lookupAnswer book session v ≡ Positive) ↔ (isTrue trail (positive v) ≡ true)
+  pub shows-positive : (lookupAnswer book session v ≡ Positive) ↔ (isTrue trail (positive v) ≡ true)
   shows-positive = (λ a. go (isTrue trail (positive v)) (isTrue trail (negative v)) refl refl a, λ t. lookup-by true (isTrue trail (negative v)) t refl)
     where
       go : (t f : Bool) → isTrue trail (positive v) ≡ t → isTrue trail (negative v) ≡ f → lookupAnswer book session v ≡ Positive → t ≡ true
@@ -62,7 +62,7 @@ module _ (book session : List ℕ) (e : readRefusal book session ≡ 0) (v : ℕ
       go false true p q a = let w : Negative ≡ Positive = sym (lookup-by false true p q) ∙ a in let z : _≡_ {A = ℕ} 0 1 = cc in absurd (omega arith)
       go false false p q a = let w : Open ≡ Positive = sym (lookup-by false false p q) ∙ a in let z : _≡_ {A = ℕ} 0 1 = cc in absurd (omega arith)
 
-  shows-negative : (lookupAnswer book session v ≡ Negative) ↔ (isTrue trail (negative v) ≡ true)
+  pub shows-negative : (lookupAnswer book session v ≡ Negative) ↔ (isTrue trail (negative v) ≡ true)
   shows-negative = (λ a. go (isTrue trail (positive v)) (isTrue trail (negative v)) refl refl a, λ f. back (isTrue trail (positive v)) refl f)
     where
       go : (t f : Bool) → isTrue trail (positive v) ≡ t → isTrue trail (negative v) ≡ f → lookupAnswer book session v ≡ Negative → f ≡ true
@@ -120,7 +120,7 @@ open-passes book buffer e =
 
 module _ (book session : List ℕ) (e : readRefusal book session ≡ 0) where
   -- a session that passes is the encoding of what it holds, and what lies behind
-  whole : session ≡ overwritten (formulaOf book) (held (formulaOf book) session) session
+  pub whole : session ≡ overwritten (formulaOf book) (held (formulaOf book) session) session
   unfolding overwritten
   whole =
       encodes-whole (formulaOf book) (well-formed-sound book (well book session (sym e))) (held (formulaOf book) session)
@@ -158,6 +158,12 @@ total-after : (book buffer : List ℕ) → wellFormed book ≡ true → (run : R
     → totalAnswer book (overwritten (formulaOf book) run buffer) ≡ Checks (sum (run .checks))
 unfolding totalAnswer readRefusal
 total-after book buffer well run valid =
+    rw (call-refusal book buffer well run valid (λ (r : Run). 0), held-overwritten book buffer well run valid)
+
+pub fixed-after : (book buffer : List ℕ) → wellFormed book ≡ true → (run : Run) → Valid (formulaOf book) run
+    → fixedAnswer book (overwritten (formulaOf book) run buffer) ≡ Of (run .fixed)
+unfolding fixedAnswer readRefusal
+fixed-after book buffer well run valid =
     rw (call-refusal book buffer well run valid (λ (r : Run). 0), held-overwritten book buffer well run valid)
 
 -- the numbers that an accepted opening and an accepted decision leave hold the run that they lead to
@@ -200,7 +206,7 @@ nothing-open-met book session e quiet none-open =
     nothing-open-all-met (formulaOf book) (held (formulaOf book) session) (well-formed-sound book (well book session (sym e))) (facts book session (sym e) .0) quiet
     (λ x low high. shown-assigned book session e x low high (none-open x low high))
 
--- The required length is at most 11,504, and the paper allows 14,000; so many numbers suffice for every book.
+-- The required length is at most `maxSession`, and the paper allows 14,000; so many numbers suffice for every book.
 pub required-within : (book : List ℕ) (n : ℕ) → requiredAnswer book ≡ Of n → (n ≤ maxSession) × (maxSession ≤ 14000)
 unfolding requiredAnswer
 required-within book n e = (go (wellFormed book) refl e, omega arith)
@@ -232,6 +238,7 @@ statement-3 book buffer calls left same e =
       numbers = is;
       book-passes = ok;
       session-passes = rw is (passes-overwritten book buffer ok run valid);
+      fixed = rw is (fixed-after book buffer ok run valid);
       total = rw is (total-after book buffer ok run valid);
       exact = counts-never-saturate (formulaOf book) s calls;
       periods = checks-by-period (formulaOf book) s calls;

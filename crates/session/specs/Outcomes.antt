@@ -8,8 +8,8 @@ use Rattle.base.specs.Lists.{sum, copied}
 use Rattle.book.specs.Formula.{Formula, positive, negative}
 use Rattle.book.specs.Numbers.{variablesOf, clausesOf, wellFormed, formulaOf}
 use Rattle.run.specs.Trail.{isTrue, decisions}
-use Rattle.run.specs.Run.{Run, inConflict, openRun, decide, backtrack}
-use Rattle.run.specs.Calls.{Call, decision, backtrackBy, decideRefusal, backtrackRefusal, reference}
+use Rattle.run.specs.Run.{Run, inConflict, openRun, decide, backtrack, fix}
+use Rattle.run.specs.Calls.{Call, decision, backtrackBy, fixBy, decideRefusal, backtrackRefusal, fixRefusal, reference}
 use Rattle.layout.specs.Layout.{requiredLength, encode, held}
 use Rattle.validation.specs.Validation.{callRefusal, readRefusal}
 use Rattle.session.specs.declared.Answer.{Answer}
@@ -43,7 +43,7 @@ abbrev pub answerOf : ℕ → Outcome Run → Answer
 answerOf before (refused number) = answer.Refused number
 answerOf before (accepted run) = propagatedAnswer before run
 
--- Backtrack: the refusal number, or done.
+-- Backtrack and fixing: the refusal number, or done.
 abbrev pub backOf : Outcome Run → Back
 backOf (refused number) = back.Refused number
 backOf (accepted run) = back.Done
@@ -65,7 +65,7 @@ abbrev pub shownOf : Outcome Run → Shown
 shownOf (refused number) = shown.Refused number
 shownOf (accepted run) = shown.Of (length (decisions (run .trail))) (run .backtracks) (length (run .trail)) (run .conflict)
 
--- Required length and copies: the refusal number, or how many numbers there are.
+-- Required length, copies and fixed decisions: the refusal number, or how many there are.
 abbrev pub countOf : Outcome ℕ → Count
 countOf (refused number) = count.Refused number
 countOf (accepted n) = count.Of n
@@ -86,11 +86,12 @@ copyAfter buffer (accepted part) = copied part buffer
 abbrev pub checksOfRun : Run → List ℕ
 checksOfRun run = run .checks
 
--- A list of calls as numbers: two for each call, its kind, 0 for a decision and any other number for a backtrack, and its literal or k.
+-- A list of calls as numbers: two for each call, its kind, 0 for a decision, 2 for a fixing and any other number for a backtrack, and its literal,
+-- f or k.
 unfoldable pub callsOf : List ℕ → List Call
 callsOf [] = []
 callsOf (kind ∷ []) = []
-callsOf (kind ∷ number ∷ numbers) = cond (eqb kind 0) (decision number) (backtrackBy number) ∷ callsOf numbers
+callsOf (kind ∷ number ∷ numbers) = cond (eqb kind 0) (decision number) (cond (eqb kind 2) (fixBy number) (backtrackBy number)) ∷ callsOf numbers
 
 -- On a book, whose numbers hold a formula:
 module _ (book : List ℕ) where
@@ -136,6 +137,16 @@ module _ (book : List ℕ) where
     unfoldable pub backtrackNumbers : ℕ → List ℕ
     backtrackNumbers k = sessionAfter formula session (outcome (sessionBacktrackRefusal k) (backtrack k run))
 
+    -- Fixing: 14, 22.
+    unfoldable pub sessionFixRefusal : ℕ → ℕ
+    sessionFixRefusal f = callRefusal book session (fixRefusal f)
+
+    unfoldable pub fixAnswer : ℕ → Back
+    fixAnswer f = backOf (outcome (sessionFixRefusal f) (fix f run))
+
+    unfoldable pub fixNumbers : ℕ → List ℕ
+    fixNumbers f = sessionAfter formula session (outcome (sessionFixRefusal f) (fix f run))
+
     -- Lookup: 13; it answers in conflict too.
     unfoldable pub lookupRefusal : ℕ → ℕ
     lookupRefusal v = callRefusal book session (λ (r : Run). cond (leb 1 v && leb v (formula .variables)) 0 13)
@@ -150,6 +161,9 @@ module _ (book : List ℕ) where
     unfoldable pub figuresAnswer : Shown
     figuresAnswer = shownOf (outcome (readRefusal book session) run)
 
+    unfoldable pub fixedAnswer : Count
+    fixedAnswer = countOf (outcome (readRefusal book session) (run .fixed))
+
     -- Copies of a part of the run: the answer says how many numbers it has.
     unfoldable pub copyAnswer : (Run → List ℕ) → Count
     copyAnswer part = countOf (outcome (readRefusal book session) (length (part run)))
@@ -161,6 +175,7 @@ module _ (book : List ℕ) where
     unfoldable pub callNumbers : Call → List ℕ
     callNumbers (decision l) = decideNumbers l
     callNumbers (backtrackBy k) = backtrackNumbers k
+    callNumbers (fixBy f) = fixNumbers f
 
   -- Replay: an opening, and then every call of the list.
   unfoldable pub playedNumbers : List ℕ → List Call → List ℕ

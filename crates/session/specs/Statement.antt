@@ -11,15 +11,16 @@ use Rattle.book.specs.Numbers.{formulaOf, wellFormed}
 use Rattle.run.specs.Trail.{isTrue, isFalse, decisions}
 use Rattle.run.specs.Run.{Run, size, clauseOf, inConflict, maxCount, trailBehind}
 use Rattle.run.specs.Closure.{Closure, BothWays}
-use Rattle.run.specs.Calls.{Call, backtrackRefusal, reference}
+use Rattle.run.specs.Calls.{Call, backtrackRefusal, reference, oldestDecisions}
 use Rattle.run.specs.Ceiling.{checksOf, countBefore, checksSince, ceiling}
 use Rattle.layout.specs.Layout.{held}
 use Rattle.validation.specs.Validation.{passes}
-use Rattle.session.specs.Outcomes.{overwritten, openRefusal, openAnswer, openNumbers, decideAnswer, decideNumbers, backtrackNumbers, lookupAnswer, totalAnswer}
+use Rattle.session.specs.Outcomes.{overwritten, openRefusal, openAnswer, openNumbers, decideAnswer, decideNumbers, backtrackNumbers, lookupAnswer, totalAnswer, fixedAnswer, playedNumbers}
 use Rattle.session.specs.declared.Answer.{Answer}
 use Rattle.session.specs.declared.Answer.the-variants.{Implied, Conflict}
 use Rattle.session.specs.declared.Assigned.the-variants.{Positive, Negative}
 use Rattle.session.specs.declared.Sum.the-variants.{Checks}
+use Rattle.session.specs.declared.Count.the-variants.{Of}
 
 module _ (formula : Formula) where
   -- What an opening or a decision that is accepted reports: by the decisions then in force, what was true before it implied anything, and
@@ -68,6 +69,20 @@ module _ (book : List ℕ) where
         Reported formula (l ∷ decisions (run .trail)) (λ m. (m ≡ l) ⊎ Closure formula (decisions (run .trail)) m)
         (held formula (decideNumbers book session l)) (decideAnswer book session l)
 
+    -- after any calls on it, refused ones included
+    module _ (calls : List Call) where
+      abbrev later : List ℕ
+      later = playedNumbers book session calls
+
+      pub record FixedStay : Type 0 where
+        -- how many decisions are fixed is told, and has not fallen
+        pub told : (fixedAnswer book session ≡ Of (run .fixed)) × (fixedAnswer book later ≡ Of (held formula later .fixed))
+        pub never-falls : run .fixed ≤ held formula later .fixed
+        -- those that were fixed are the same, the oldest ones, and lookup shows them, in conflict too
+        pub same : oldestDecisions (run .fixed) (held formula later) ≡ oldestDecisions (run .fixed) run
+        pub shown-positive : (v : ℕ) → member (positive v) (oldestDecisions (run .fixed) run) ≡ true → lookupAnswer book later v ≡ Positive
+        pub shown-negative : (v : ℕ) → member (negative v) (oldestDecisions (run .fixed) run) ≡ true → lookupAnswer book later v ≡ Negative
+
   -- After an accepted opening on any lent numbers and then any calls, refused ones included, of the numbers that are then left:
   module _ (buffer : List ℕ) (calls : List Call) (left : List ℕ) where
     -- the reference run of the calls
@@ -81,6 +96,8 @@ module _ (book : List ℕ) where
       -- 11 and 12 never arise
       pub book-passes : wellFormed book ≡ true
       pub session-passes : passes formula left ≡ true
+      -- as many decisions are fixed as in the reference run
+      pub fixed : fixedAnswer book left ≡ Of (reached .fixed)
       -- the total is the sum of the counts, and no count has stopped at its largest value
       pub total : totalAnswer book left ≡ Checks (sum (reached .checks))
       pub exact : (c : ℕ) → checksOf reached c < maxCount

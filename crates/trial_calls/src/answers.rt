@@ -56,10 +56,11 @@ pub(crate) fn replayed(said: bool, answer: Answer) -> u32 {
     0
 }
 
-pub(crate) fn back(k: u32, answer: Back) -> u32 {
+// What a backtrack or a fixing answers; an accepted one is said by a word and its number.
+pub(crate) fn done(word: u32, number: u32, answer: Back) -> u32 {
     match answer {
         Back::Done => {
-            say(messages::BACKTRACK, k);
+            say(word, number);
             0
         }
         Back::Refused(refusal) => refused(refusal),
@@ -114,10 +115,11 @@ pub(crate) fn figures(answer: Shown) -> u32 {
     }
 }
 
-pub(crate) fn required_length(answer: Count) -> u32 {
+// A count behind a word.
+pub(crate) fn count(word: u32, answer: Count) -> u32 {
     match answer {
         Count::Of(n) => {
-            say(messages::REQUIRED, n);
+            say(word, n);
             0
         }
         Count::Refused(refusal) => refused(refusal),

@@ -6,6 +6,7 @@ use crate::reads::read;
 use script::Line;
 use trials::build::decode;
 use trials::lists::numbers;
+use trials::messages;
 use trials::names;
 use trials::rows::behind;
 
@@ -21,7 +22,11 @@ fn decide(book: &[u32], session: &mut [u32], literal: u32) -> u32 {
 }
 
 fn backtrack(book: &[u32], session: &mut [u32], k: u32) -> u32 {
-    answers::back(k, session::backtrack(book, session, k))
+    answers::done(messages::BACKTRACK, k, session::backtrack(book, session, k))
+}
+
+fn fix(book: &[u32], session: &mut [u32], f: u32) -> u32 {
+    answers::done(messages::FIXING, f, session::fix(book, session, f))
 }
 
 // What the line of a script asks; it stands behind the first blank of a step.
@@ -58,6 +63,7 @@ pub fn call(book: &[u32], session: &mut [u32], step: &[u8], called: usize, a: u3
         names::OPEN => answers::propagated(0, session::open(book, session)),
         names::DECIDE => decide(book, session, a),
         names::BACKTRACK => backtrack(book, session, a),
+        names::FIX => fix(book, session, a),
         names::MANY => decide_many(book, session, a, b),
         names::BEGIN | names::REPLAY => replay(book, session, step, called == names::REPLAY),
         names::LINE => line(book, session, parsed(step)),

@@ -34,8 +34,9 @@ pub(crate) fn read(book: &[u32], session: &[u32], step: usize, a: u32, b: u32) -
     match step {
         names::LOOKUP => answers::assigned(a, session::lookup(book, session, a)),
         names::FIGURES => answers::figures(session::figures(book, session)),
+        names::FIXED => answers::count(messages::FIXED, session::fixed(book, session)),
         names::TOTAL => answers::sum(session::total(book, session)),
-        names::REQUIRED => answers::required_length(session::required_length(book)),
+        names::REQUIRED => answers::count(messages::REQUIRED, session::required_length(book)),
         names::EACH => copy_to(book, session, step, 0, wide(a)),
         names::TRAIL => copy_to(book, session, step, a, wide(b)),
         names::FORM => answers::form(book::well_formed(book)),

@@ -48,31 +48,35 @@ pub const CONFLICT: u32 = 20;
 
 pub const BACKTRACK: u32 = 21;
 
-pub const VARIABLE: u32 = 22;
+pub const FIXING: u32 = 22;
 
-pub const OPEN: u32 = 23;
+pub const VARIABLE: u32 = 23;
 
-pub const POSITIVE: u32 = 24;
+pub const OPEN: u32 = 24;
 
-pub const NEGATIVE: u32 = 25;
+pub const POSITIVE: u32 = 25;
 
-pub const TOTAL: u32 = 26;
+pub const NEGATIVE: u32 = 26;
 
-pub const DECISIONS: u32 = 27;
+pub const TOTAL: u32 = 27;
 
-pub const BACKTRACKS: u32 = 28;
+pub const DECISIONS: u32 = 28;
 
-pub const TRAIL: u32 = 29;
+pub const BACKTRACKS: u32 = 29;
 
-pub const REQUIRED: u32 = 30;
+pub const TRAIL: u32 = 30;
 
-pub const CHECKS: u32 = 31;
+pub const FIXED: u32 = 31;
 
-pub const COPIED: u32 = 32;
+pub const REQUIRED: u32 = 32;
 
-pub const BLANK: u32 = 33;
+pub const CHECKS: u32 = 33;
 
-pub const MINUS: u32 = 34;
+pub const COPIED: u32 = 34;
+
+pub const BLANK: u32 = 35;
+
+pub const MINUS: u32 = 36;
 
 // Part k of the bytes, parted by `|`.
 pub fn print_part(bytes: &[u8], k: u32) {
@@ -87,7 +91,7 @@ pub fn print(word: u32) {
     print_part(
         b"\n|: | / |, too long|, no such name|, no such place|, lent numbers changed|, out of form|, lent numbers untouched|\
         , the rest untouched|, numbers|refused |V | C | L |well formed|open|choose | forced |:| rule |back |\
-        feature | open| wanted| barred|checks |choices | backs | trail |need |rules |literals | |-",
+        fixed |feature | open| wanted| barred|checks |choices | backs | trail |choices fixed |need |rules |literals | |-",
         word,
     );
 }

@@ -30,46 +30,50 @@ pub const DECIDE: usize = 12;
 
 pub const BACKTRACK: usize = 13;
 
-pub const MANY: usize = 14;
+pub const FIX: usize = 14;
 
-pub const REPLAY: usize = 15;
+pub const MANY: usize = 15;
 
-pub const LINE: usize = 16;
+pub const REPLAY: usize = 16;
 
-pub const LOOKUP: usize = 17;
+pub const LINE: usize = 17;
 
-pub const FIGURES: usize = 18;
+pub const LOOKUP: usize = 18;
 
-pub const TOTAL: usize = 19;
+pub const FIGURES: usize = 19;
 
-pub const REQUIRED: usize = 20;
+pub const FIXED: usize = 20;
 
-pub const EACH: usize = 21;
+pub const TOTAL: usize = 21;
 
-pub const FORM: usize = 22;
+pub const REQUIRED: usize = 22;
 
-pub const SIZES: usize = 23;
+pub const EACH: usize = 23;
+
+pub const FORM: usize = 24;
+
+pub const SIZES: usize = 25;
 
 // The parts of a session in their order, and what is behind the last.
-pub const HEADER: usize = 24;
+pub const HEADER: usize = 26;
 
-pub const TRAIL: usize = 25;
+pub const TRAIL: usize = 27;
 
-pub const LEVELS: usize = 26;
+pub const LEVELS: usize = 28;
 
-pub const VALUES: usize = 27;
+pub const VALUES: usize = 29;
 
-pub const WATCHES: usize = 28;
+pub const WATCHES: usize = 30;
 
-pub const POINTERS: usize = 29;
+pub const POINTERS: usize = 31;
 
-pub const CHECKS: usize = 30;
+pub const CHECKS: usize = 32;
 
-pub const HEADS: usize = 31;
+pub const HEADS: usize = 33;
 
-pub const LINKS: usize = 32;
+pub const LINKS: usize = 34;
 
-pub const BEHIND: usize = 33;
+pub const BEHIND: usize = 35;
 
 // The place of a word among names that are parted by blanks, from 0; how many they are where it is none of them.
 fn place_among(names: &[u8], word: &[u8]) -> usize {
@@ -92,8 +96,8 @@ pub fn name(row: &[u8], byte: u8, k: u32) -> usize {
     let from = span.from;
     let to = span.to;
     place_among(
-        b"text room session based base numbers write give short spare begin open choose back many play line lookup figures sum \
-        need each form sizes header trail levels values watches pointers checks heads links",
+        b"text room session based base numbers write give short spare begin open choose back fix many play line lookup figures \
+        fixed sum need each form sizes header trail levels values watches pointers checks heads links",
         &row[from..to],
     )
 }

@@ -74,6 +74,7 @@ module _ (formula : Formula) (s : sound formula ≡ true) (numbers : List ℕ) w
             };
         conflict = refl;
         backtracks = refl;
+        fixed = refl;
         watches =
             record {
               firsts = λ c h. sym (ap (λ (cell : Cell). cell .first) (held-cell formula numbers c h));

@@ -11,7 +11,7 @@ use lib.ListN.{length, List·getD-eq-default}
 use Rattle.base.specs.Lists.{all, distinct, upTo}
 use Rattle.base.proofs.Bools.{and-parts, below, both}
 use Rattle.book.specs.Formula.{Formula, variableOf, literalWithin, sound}
-use Rattle.run.specs.Trail.{Entry}
+use Rattle.run.specs.Trail.{Entry, decisions}
 use Rattle.run.specs.Run.{Run, size, noCell, cellOf, maxCount}
 use Rattle.run.specs.Calls.{maxBacktracks}
 use Rattle.run.specs.Valid.{Watching, Valid}
@@ -39,6 +39,9 @@ module _ (formula : Formula) (run : Run) where
   abbrev backtracksWithin : Bool
   backtracksWithin = leb (run .backtracks) maxBacktracks
 
+  abbrev fixedWithin : Bool
+  fixedWithin = leb (run .fixed) (length (decisions (run .trail)))
+
   abbrev onceEach : Bool
   onceEach = distinct (map (λ (e : Entry). variableOf (e .literal)) (run .trail))
 
@@ -51,11 +54,11 @@ module _ (formula : Formula) (run : Run) where
   abbrev upToLists : Bool
   upToLists = trailWithin && cellsLong && listsLong
 
-  abbrev upToBacktracks : Bool
-  upToBacktracks = upToLists && checksLong && checksWithin && backtracksWithin
+  abbrev upToFixed : Bool
+  upToFixed = upToLists && checksLong && checksWithin && backtracksWithin && fixedWithin
 
   abbrev upToJustified : Bool
-  upToJustified = upToBacktracks && onceEach && isJustified formula (run .trail)
+  upToJustified = upToFixed && onceEach && isJustified formula (run .trail)
 
   -- two of the tests, of the cells and of the lists
   watching-all : length (run .cells) ≡ length (formula .clauses) → watchingAll ≡ true
@@ -74,9 +77,10 @@ module _ (formula : Formula) (run : Run) where
       let k = and-parts (upToJustified && watchingAll && isListed formula run) (isConflict formula run (run .conflict)) e in
       let j = and-parts (upToJustified && watchingAll) (isListed formula run) (k .0) in
       let i = and-parts upToJustified watchingAll (j .0) in
-      let h = and-parts (upToBacktracks && onceEach) (isJustified formula (run .trail)) (i .0) in
-      let g = and-parts upToBacktracks onceEach (h .0) in
-      let f = and-parts (upToLists && checksLong && checksWithin) backtracksWithin (g .0) in
+      let h = and-parts (upToFixed && onceEach) (isJustified formula (run .trail)) (i .0) in
+      let g = and-parts upToFixed onceEach (h .0) in
+      let fixed = and-parts (upToLists && checksLong && checksWithin && backtracksWithin) fixedWithin (g .0) in
+      let f = and-parts (upToLists && checksLong && checksWithin) backtracksWithin (fixed .0) in
       let d = and-parts (upToLists && checksLong) checksWithin (f .0) in
       let c = and-parts upToLists checksLong (d .0) in
       let b = and-parts (trailWithin && cellsLong) listsLong (c .0) in
@@ -92,6 +96,7 @@ module _ (formula : Formula) (run : Run) where
         checks-length = eqb-true (length (run .checks)) (length (formula .clauses)) (c .1);
         checks-within = counts-said maxCount (run .checks) (d .1);
         backtracks-within = leb-true (run .backtracks) maxBacktracks (f .1);
+        fixed-within = leb-true (run .fixed) (length (decisions (run .trail))) (fixed .1);
         trail-distinct = g .1;
         justified = justified-said formula (run .trail) (h .1);
         watching = watches .0;
@@ -114,12 +119,14 @@ module _ (formula : Formula) (run : Run) where
       (both
       (both
       (both
+      (both
       (both (within-tests (formula .variables) (run .trail) (v .trail-within))
       (eq-eqb (length (run .cells)) (length (formula .clauses)) (v .cells-length)))
       (eq-eqb (length (run .lists)) (2 * formula .variables + 2) (v .lists-length)))
       (eq-eqb (length (run .checks)) (length (formula .clauses)) (v .checks-length)))
       (counts-test maxCount (run .checks) (v .checks-within)))
       (le-leb (run .backtracks) maxBacktracks (v .backtracks-within)))
+      (le-leb (run .fixed) (length (decisions (run .trail))) (v .fixed-within)))
       (v .trail-distinct))
       (justified-tests formula (run .trail) (v .justified)))
       (upto-all (length (formula .clauses)) watchingAt

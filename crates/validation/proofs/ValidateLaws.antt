@@ -12,14 +12,14 @@ use Rattle.book.specs.Numbers.{variablesOf, clausesOf, formulaOf, wellFormed}
 use Rattle.book.proofs.PartLaws.{clauses-counted}
 use Rattle.book.proofs.WellFormedLaws.{well-formed-sound}
 use Rattle.run.specs.Run.{maxCount}
-use Rattle.run.specs.Calls.{maxBacktracks}
 use Rattle.run.specs.Valid.{Justified, Valid}
 use Rattle.run.proofs.Clauses.{clause-exists}
 use Rattle.run.proofs.Propagation.{valid-structure}
 use Rattle.run.proofs.Validity.{trail-short}
-use Rattle.layout.specs.Layout.{lengthAt, decisionsAt, conflictAt, backtracksAt, checksAt, SessionFits, requiredLength, held}
+use Rattle.layout.specs.Layout.{lengthAt, decisionsAt, conflictAt, checksAt, SessionFits, requiredLength, held}
 use Rattle.validation.specs.Validation.{passes, callRefusal, readRefusal}
 use Rattle.layout.specs.Encodes.{Encodes}
+use Rattle.validation.specs.Inner.Header.{HeaderGood}
 use Rattle.validation.specs.Inner.Trail.{TrailGood}
 use Rattle.validation.specs.Inner.Cells.{CellsGood}
 use Rattle.validation.specs.Inner.Lists.{ListsGood}
@@ -34,8 +34,7 @@ use Rattle.validation.proofs.PassLaws.{passes-encodes}
 -- the conditions that a session has to meet in conflict and out of it
 pub record Built (book numbers : List ℕ) : Type 0 where
   pub enough : SessionFits book numbers
-  pub conflict-within : getD numbers conflictAt 0 ≤ clausesOf book
-  pub backtracks-within : getD numbers backtracksAt 0 ≤ maxBacktracks
+  pub header : HeaderGood (clausesOf book) numbers
   pub trail : TrailGood (variablesOf book) numbers
   pub reasons : Justified (formulaOf book) (held (formulaOf book) numbers .trail)
   pub cells : CellsGood (formulaOf book) numbers
@@ -58,6 +57,14 @@ module _ (book numbers : List ℕ) (v : ℕ) (is : v ≡ variablesOf book) where
 
   pub trail-from : TrailGood (variablesOf book) numbers → TrailGood v numbers
   trail-from good = rw is good
+
+-- the header, by the number of clauses that is read
+module _ (book numbers : List ℕ) (n : ℕ) (is : n ≡ clausesOf book) where
+  pub header-to : HeaderGood n numbers → HeaderGood (clausesOf book) numbers
+  header-to good = rw is at good
+
+  pub header-from : HeaderGood (clausesOf book) numbers → HeaderGood n numbers
+  header-from good = rw is good
 
 -- the conflict clause by the number that names it
 module _ (book numbers : List ℕ) (k : ℕ) (is : k ≡ getD numbers conflictAt 0) where
@@ -94,6 +101,7 @@ module _ (book numbers : List ℕ) (well : wellFormed book ≡ true) where
           trail = p .built .trail .is-held;
           conflict = refl;
           backtracks = refl;
+          fixed = refl;
           watches = p .built .lists .is-held;
           checks = λ c h. sym (held-check (formulaOf book) numbers c h);
         }
@@ -108,7 +116,8 @@ module _ (book numbers : List ℕ) (well : wellFormed book ≡ true) where
               let rest = length-lists (variablesOf book) (length (formulaOf book .clauses)) numbers 0 (2 * variablesOf book) in omega arith;
           checks-length = checks-long;
           checks-within = checks-small small;
-          backtracks-within = p .built .backtracks-within;
+          backtracks-within = p .built .header .backtracks-within;
+          fixed-within = omega (arith, p .built .header .fixed-within, p .built .trail .is-held .decided);
           trail-distinct = p .built .trail .once;
           justified = p .built .reasons;
           watching = p .built .cells .watching;
@@ -134,8 +143,12 @@ module _ (book numbers : List ℕ) (well : wellFormed book ≡ true) where
         built =
             record {
               enough = held-fits well e;
-              conflict-within = within (below 0 (getD numbers conflictAt 0));
-              backtracks-within = v .backtracks-within;
+              header =
+                  record {
+                    conflict-within = within (below 0 (getD numbers conflictAt 0));
+                    backtracks-within = v .backtracks-within;
+                    fixed-within = omega (arith, v .fixed-within, e .trail .decided);
+                  };
               trail =
                   record {
                     count-within = rw (held-length (variablesOf book) numbers (getD numbers lengthAt 0)) at (trail-short (valid-structure v .trailed));

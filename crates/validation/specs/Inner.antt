@@ -2,6 +2,7 @@
 pub mod Cells
 pub mod Conflict
 pub mod Fixpoint
+pub mod Header
 pub mod Lists
 pub mod Places
 pub mod Reasons

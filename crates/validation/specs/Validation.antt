@@ -72,6 +72,7 @@ isValid formula run =
     && eqb (length (run .checks)) (length (formula .clauses))
     && all (λ (n : ℕ). leb n maxCount) (run .checks)
     && leb (run .backtracks) maxBacktracks
+    && leb (run .fixed) (length (decisions (run .trail)))
     && distinct (map (λ (e : Entry). variableOf (e .literal)) (run .trail))
     && isJustified formula (run .trail)
     && upTo (length (formula .clauses)) (λ (c : ℕ). isWatching (size formula c) (cellOf run c))

@@ -9,8 +9,13 @@ mod trail;
 
 ghost use mathlib.Core.Path.{_≡_};
 ghost use mathlib.Core.Bool.{true};
+ghost use Prim.Native.Nat.{_≤_};
+ghost use lib.ListN.{length};
 ghost use Rattle.book.specs.Numbers.{formulaOf, wellFormed};
+ghost use Rattle.layout.specs.Layout.{trailAt};
 ghost use Rattle.validation.specs.Validation.{passes, readRefusal};
+ghost use Rattle.validation.specs.Inner.Header.{HeaderGood};
+ghost use Rattle.validation.specs.Inner.Says.{Says};
 use crate::cells::cells_pass;
 use crate::conflict::conflict_false;
 use crate::fixpoint::fixpoint;
@@ -21,8 +26,24 @@ use layout::limits::MAX_BACKTRACKS;
 use layout::offsets::BACKTRACKS;
 use layout::offsets::CONFLICT;
 use layout::offsets::DECISIONS;
+use layout::offsets::FIXED;
 use layout::offsets::required_length;
 use layout::values::wide;
+
+// The header beside the trail's two numbers: the conflict clause, where one is named, is one of the book's, there are not too many backtracks,
+// and no more decisions are fixed than are in force.
+fn header_passes(session: &[u32], clauses: usize) -> bool
+    requires { ⌜ trailAt ≤ length (now session) ⌝ }
+    ensures { λ r. ⌜ Says r (HeaderGood clauses (now (session .entry))) ⌝ }
+{
+    if wide(session[CONFLICT]) > clauses {
+        return false;
+    }
+    if session[BACKTRACKS] > MAX_BACKTRACKS {
+        return false;
+    }
+    session[FIXED] <= session[DECISIONS]
+}
 
 // The numbers are those of a valid run: number 12 of the table is given exactly where this is false.
 fn session_passes(book: &[u32], session: &[u32]) -> bool
@@ -34,11 +55,7 @@ fn session_passes(book: &[u32], session: &[u32]) -> bool
     if session.len() < required_length(variables, clauses) {
         return false;
     }
-    let conflict = wide(session[CONFLICT]);
-    if conflict > clauses {
-        return false;
-    }
-    if session[BACKTRACKS] > MAX_BACKTRACKS {
+    if !header_passes(session, clauses) {
         return false;
     }
     if !trail_passes(session, variables) {
@@ -53,6 +70,7 @@ fn session_passes(book: &[u32], session: &[u32]) -> bool
     if !lists_pass(book, session) {
         return false;
     }
+    let conflict = wide(session[CONFLICT]);
     if conflict == 0 {
         return fixpoint(book, session, false);
     }

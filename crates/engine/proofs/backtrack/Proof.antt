@@ -1,5 +1,5 @@
 -- `backtrack` meets its contract: levels leave the trail, the conflict is over, one backtrack more. Assumes nothing.
-use Rattle.layout.specs.Layout.{conflictAt, backtracksAt}
+use Rattle.layout.specs.Layout.{conflictAt, backtracksAt, trailAt}
 use Prim.Native.Nat.{_≤_}
 use native.Mathlib.Omega.{arith}
 use borrow.Author.Needs.{needs}
@@ -25,7 +25,7 @@ cut-levels-requires c κs = (
 )
 
 -- the numbers are as many as before
-long : (c : tie.After-cut-levels) → 4 ≤ length (c .cut-levels .last .0)
+long : (c : tie.After-cut-levels) → trailAt ≤ length (c .cut-levels .last .0)
 long c = omega (arith, c .cut-levels .ensures .1 .same-length, start (c .before) .pre .0 .encodes .long)
 
 slice-write-session : tie.Need-slice-write-session
@@ -43,7 +43,7 @@ add-session c =
     omega (
       arith,
       getD-set-other (after-cut-levels .cut-levels .last .0) conflictAt backtracksAt 0 0 (λ z. omega arith),
-      after-cut-levels .cut-levels .ensures .1 .backtracks,
+      after-cut-levels .cut-levels .ensures .1 .header backtracksAt (omega arith) (omega arith),
       few-backtracks (start here .pre .0) (start here .args .k) (start here .pre .1),
     )
 

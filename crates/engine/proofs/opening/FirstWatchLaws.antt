@@ -24,7 +24,7 @@ use Rattle.run.specs.Run.{clauseOf, size, noCell, listOf, pushFront, withWatche
 use Rattle.run.proofs.Clauses.{literal-within}
 use Rattle.run.proofs.Opening.{first-big, first-small}
 use Rattle.run.proofs.WatchLists.{literals-differ}
-use Rattle.layout.specs.Layout.{lengthAt, decisionsAt, conflictAt, backtracksAt, trailAt, levelsAt, valuesAt, watchesAt, pointersAt, checksAt, SessionFits, requiredLength, valueNumber, levelNumber, nodeOf}
+use Rattle.layout.specs.Layout.{lengthAt, decisionsAt, conflictAt, backtracksAt, fixedAt, trailAt, levelsAt, valuesAt, watchesAt, pointersAt, checksAt, SessionFits, requiredLength, valueNumber, levelNumber, nodeOf}
 use Rattle.layout.specs.Encodes.{Encodes}
 use Rattle.layout.proofs.ChainLaws.{node-between, node-first, node-second, node-same}
 use Rattle.engine.specs.Engine.{SameBehind, Becomes}
@@ -88,6 +88,7 @@ watches-begin book numbers fits zeros =
                 };
             conflict = zeros conflictAt (omega arith);
             backtracks = zeros backtracksAt (omega arith);
+            fixed = zeros fixedAt (omega arith);
             watches =
                 record {
                   firsts = λ c h. zeros (watchesAt v + 2 * c) (omega arith);
@@ -167,6 +168,7 @@ module _ (book : List ℕ) (c : ℕ) (well : wellFormed book ≡ true) (inside-b
                   trail = k .encodes .trail;
                   conflict = k .encodes .conflict;
                   backtracks = k .encodes .backtracks;
+                  fixed = k .encodes .fixed;
                   watches =
                       record {
                         firsts = λ d h. k .encodes .watches .firsts d h ∙ sym (ap (λ (x : Cell). x .first) (same d));

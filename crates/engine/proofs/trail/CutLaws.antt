@@ -49,8 +49,7 @@ module _ (v : ℕ) (numbers : List ℕ) (at l level : ℕ) where
     shorter-beside =
         record {
           same-length = simp length-set;
-          conflict = shorter-other 2 (λ q. omega arith) (λ q. omega arith) (λ q. omega arith) (λ q. omega arith) (λ q. omega arith);
-          backtracks = shorter-other 3 (λ q. omega arith) (λ q. omega arith) (λ q. omega arith) (λ q. omega arith) (λ q. omega arith);
+          header = λ i low high. shorter-other i (λ q. omega arith) (λ q. omega arith) (λ q. omega arith) (λ q. omega arith) (λ q. omega arith);
           parts = λ i h. shorter-other i (λ q. omega arith) (λ q. omega arith) (λ q. omega arith) (λ q. omega arith) (λ q. omega arith);
         }
 

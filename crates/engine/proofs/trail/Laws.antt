@@ -12,7 +12,7 @@ use Rattle.book.specs.Formula.{variableOf, literalWithin}
 use Rattle.run.specs.Trail.{Entry, opposite, place, literalAt, decisions, level}
 use Rattle.book.proofs.SoundLaws.{literal-parts}
 use Rattle.run.proofs.Levels.{decided-count}
-use Rattle.layout.specs.Layout.{TrailFits, watchesAt, trailAt, levelsAt, valuesAt, valueNumber, levelNumber, decisionsAt, lengthAt, conflictAt, backtracksAt, valueSlot}
+use Rattle.layout.specs.Layout.{TrailFits, watchesAt, trailAt, levelsAt, valuesAt, valueNumber, levelNumber, decisionsAt, lengthAt, valueSlot}
 use Rattle.layout.specs.Encodes.{TrailHeld}
 use Rattle.engine.specs.Inner.Trail.{assignNums, SameBeside}
 use Rattle.layout.proofs.TrailLaws.{level-number-new, level-number-old, literal-cases, value-number-new, value-number-old}
@@ -71,21 +71,19 @@ pub assign-beside : (v : ℕ) (numbers : List ℕ) (l level : ℕ) → getD numb
 assign-beside v numbers l level room low within =
     record {
       same-length = assign-length v numbers l level;
-      conflict = assign-other v numbers l level 2 (λ q. omega arith) (λ q. omega arith) (λ q. omega arith) (λ q. omega arith);
-      backtracks = assign-other v numbers l level 3 (λ q. omega arith) (λ q. omega arith) (λ q. omega arith) (λ q. omega arith);
+      header = λ i low high. assign-other v numbers l level i (λ q. omega arith) (λ q. omega arith) (λ q. omega arith) (λ q. omega arith);
       parts = λ i h. assign-other v numbers l level i (λ q. omega arith) (λ q. omega arith) (λ q. omega arith) (λ q. omega arith);
     }
 
 -- nor where the number of decisions is stored
 pub beside-same : (v : ℕ) (numbers : List ℕ) → SameBeside v numbers numbers
-beside-same v numbers = record { same-length = refl; conflict = refl; backtracks = refl; parts = λ i h. refl }
+beside-same v numbers = record { same-length = refl; header = λ i low high. refl; parts = λ i h. refl }
 
 pub beside-compose : {v : ℕ} {a b c : List ℕ} → SameBeside v a b → SameBeside v b c → SameBeside v a c
 beside-compose p q =
     record {
       same-length = q .same-length ∙ p .same-length;
-      conflict = q .conflict ∙ p .conflict;
-      backtracks = q .backtracks ∙ p .backtracks;
+      header = λ i low high. q .header i low high ∙ p .header i low high;
       parts = λ i h. q .parts i h ∙ p .parts i h;
     }
 
@@ -97,8 +95,7 @@ pub decisions-beside : (v : ℕ) (numbers : List ℕ) (n : ℕ) → SameBeside v
 decisions-beside v numbers n =
     record {
       same-length = length-set numbers decisionsAt n;
-      conflict = getD-set-other numbers decisionsAt conflictAt n 0 (λ q. omega arith);
-      backtracks = getD-set-other numbers decisionsAt backtracksAt n 0 (λ q. omega arith);
+      header = λ i low high. getD-set-other numbers decisionsAt i n 0 (λ q. omega arith);
       parts = λ i h. getD-set-other numbers decisionsAt i n 0 (λ q. omega arith);
     }
 

@@ -18,7 +18,7 @@ use Rattle.run.proofs.Trails.{untrue-place}
 use Rattle.run.specs.Progress.{Watched, Trailed}
 use Rattle.run.proofs.Propagation.{trailed-push}
 use Rattle.run.proofs.Validity.{trail-short}
-use Rattle.layout.specs.Layout.{lengthAt, decisionsAt, conflictAt, backtracksAt, trailAt, levelsAt, valuesAt, watchesAt, pointersAt, checksAt, requiredLength, nodeOf, clauseOfNode, watchSlot}
+use Rattle.layout.specs.Layout.{lengthAt, decisionsAt, conflictAt, backtracksAt, fixedAt, trailAt, levelsAt, valuesAt, watchesAt, pointersAt, checksAt, requiredLength, nodeOf, clauseOfNode, watchSlot}
 use Rattle.layout.specs.Encodes.{TrailHeld, Encodes}
 use Rattle.layout.proofs.ChainLaws.{watched-within}
 use Rattle.engine.specs.Inner.Trail.{SameBeside, assignNums}
@@ -63,6 +63,7 @@ module _ (formula : Formula) (numbers : List ℕ) (run : Run) (e : Encodes formu
         trail = trail-frame (λ x h n. other x (λ z. omega arith)) (e .trail);
         conflict = other conflictAt (λ z. omega arith) ∙ e .conflict;
         backtracks = other backtracksAt (λ z. omega arith) ∙ e .backtracks;
+        fixed = other fixedAt (λ z. omega arith) ∙ e .fixed;
         watches =
             held-outside formula numbers (run .cells) (run .lists) (watched-within formula (run .cells) (run .lists) w) slot count (inr (omega arith, omega arith))
             (e .watches);
@@ -138,6 +139,7 @@ encodes-lists {v} {n} {formula} {before} {after} {run} others e only k =
       trail = trail-frame (λ x h z. front x (omega arith)) (e .trail);
       conflict = front conflictAt (omega arith) ∙ e .conflict;
       backtracks = front backtracksAt (omega arith) ∙ e .backtracks;
+      fixed = front fixedAt (omega arith) ∙ e .fixed;
       watches =
           record {
             firsts = λ c h. front (watchesAt (formula .variables) + 2 * c) (omega arith) ∙ e .watches .firsts c h;
@@ -272,6 +274,7 @@ module _ {v n c node position : ℕ} {formula : Formula} {numbers : List ℕ} {r
         trail = trail-frame (λ x h z. stored-other x (λ y. omega arith) (λ y. omega arith)) (e .trail);
         conflict = stored-other conflictAt (λ y. omega arith) (λ y. omega arith) ∙ e .conflict;
         backtracks = stored-other backtracksAt (λ y. omega arith) (λ y. omega arith) ∙ e .backtracks;
+        fixed = stored-other fixedAt (λ y. omega arith) (λ y. omega arith) ∙ e .fixed;
         watches =
             record {
               firsts = λ d h. rw (k .variables-are) (first-held d (omega arith));

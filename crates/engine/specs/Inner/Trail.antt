@@ -1,12 +1,12 @@
 -- What the contracts of src/trail.rt cite: the numbers after a literal joined or left the trail, and what a cut asks.
-use Prim.Native.Nat.{ℕ, _+_, _*_, _-_, _%_, _≤_}
+use Prim.Native.Nat.{ℕ, _+_, _*_, _-_, _%_, _≤_, _<_}
 use mathlib.Core.Path.{_≡_}
 use mathlib.Core.Bool.{true}
 use mathlib.Core.List.{List, map}
 use lib.ListN.{length, getD, set}
 use Rattle.book.specs.Formula.{variableOf, literalWithin}
 use Rattle.run.specs.Trail.{Entry, isTrue, decisions}
-use Rattle.layout.specs.Layout.{lengthAt, decisionsAt, conflictAt, backtracksAt, watchesAt, trailAt, levelsAt, levelBefore, valueSlot}
+use Rattle.layout.specs.Layout.{lengthAt, decisionsAt, conflictAt, watchesAt, trailAt, levelsAt, levelBefore, valueSlot}
 use Rattle.layout.specs.Encodes.{TrailHeld}
 use Rattle.base.specs.Lists.{distinct}
 
@@ -24,8 +24,7 @@ assignNums v numbers l level =
 -- outside the header's first two numbers, the trail, the levels and the values nothing changed
 pub record SameBeside (v : ℕ) (before after : List ℕ) : Type 0 where
   pub same-length : length after ≡ length before
-  pub conflict : getD after conflictAt 0 ≡ getD before conflictAt 0
-  pub backtracks : getD after backtracksAt 0 ≡ getD before backtracksAt 0
+  pub header : (i : ℕ) → conflictAt ≤ i → i < trailAt → getD after i 0 ≡ getD before i 0
   pub parts : (i : ℕ) → watchesAt v ≤ i → getD after i 0 ≡ getD before i 0
 
 -- the last literal leaves the trail

@@ -2,11 +2,12 @@
 use Rattle.validation.specs.Validation.{readRefusal}
 use Prim.Native.Nat.{ℕ}
 use mathlib.Core.List.{List}
+use mathlib.Core.Logic.{inl, inr}
 use mathlib.Core.Path.{sym, _∙_, _≡_}
 use native.Mathlib.Omega.{arith}
 use borrow.Author.Needs.{needs}
 use Rattle.session.proofs.PassedLaws.{back-refused-first, long}
-use Rattle.session.proofs.AnswerLaws.{back-none, back-over, back-spent, back-accepted}
+use Rattle.session.proofs.AnswerLaws.{back-none-or-over, back-spent, back-accepted}
 use Rattle.session.proofs.backtrack_refusal.Statement.{statement}
 use Rattle.session.proofs.backtrack_refusal.Tie as tie
 
@@ -33,7 +34,7 @@ returns c = back-refused-first (book (c .before)) (session (c .before)) _ _ (c .
 returns-2 : tie.Need-returns-2
 returns-2 c =
     let here = c .before .before in
-    back-none (book here) (session here) (none (c .before)) _ (c .if2 .taken)
+    back-none-or-over (book here) (session here) (none (c .before)) _ (inl (c .if2 .taken))
 
 shared-slice-read-if3 : tie.Need-shared-slice-read-if3
 shared-slice-read-if3 c =
@@ -42,8 +43,9 @@ shared-slice-read-if3 c =
 
 returns-3 : tie.Need-returns-3
 returns-3 c =
-    let here = c .before .before .before .before in
-    back-over (book here) (session here) (none (c .before .before .before)) _ (c .if3 .taken)
+    let else1 = c .before .before .before in
+    let here = else1 .before in
+    back-none-or-over (book here) (session here) (none else1) _ (inr (omega (arith, c .if3 .taken)))
 
 shared-slice-read-if4 : tie.Need-shared-slice-read-if4
 shared-slice-read-if4 c =
@@ -51,17 +53,40 @@ shared-slice-read-if4 c =
     let here = else1 .before in
     omega (arith, long (book here) (session here) (none else1))
 
+sub-if4 : tie.Need-sub-if4
+sub-if4 c = omega (arith, c .before .if3 .left)
+
+shared-slice-read-if4-2 : tie.Need-shared-slice-read-if4-2
+shared-slice-read-if4-2 c =
+    let else1 = c .before .before .before .before .before in
+    let here = else1 .before in
+    omega (arith, long (book here) (session here) (none else1))
+
 returns-4 : tie.Need-returns-4
 returns-4 c =
-    let else2 = c .before .before .before .before in
-    let here = else2 .before .before in
-    back-spent (book here) (session here) (none (else2 .before)) _ (else2 .if2 .left) (c .before .before .if3 .left) (c .if4 .taken)
+    let else1 = c .before .before .before .before .before .before in
+    let here = else1 .before in
+    back-none-or-over (book here) (session here) (none else1) _ (inr (omega (arith, c .before .before .before .if3 .left, c .if4 .taken)))
+
+shared-slice-read-if5 : tie.Need-shared-slice-read-if5
+shared-slice-read-if5 c =
+    let else1 = c .before .before .before .before .before .before .before in
+    let here = else1 .before in
+    omega (arith, long (book here) (session here) (none else1))
 
 returns-5 : tie.Need-returns-5
 returns-5 c =
-    let else2 = c .before .before .before .before in
+    let else4 = c .before .before in
+    let else2 = else4 .before .before .before .before .before in
     let here = else2 .before .before in
-    back-accepted (book here) (session here) (none (else2 .before)) _ (else2 .if2 .left) (c .before .before .if3 .left) (c .if4 .left)
+    back-spent (book here) (session here) (none (else2 .before)) _ (else2 .if2 .left) (omega (arith, else4 .before .before .before .if3 .left, else4 .if4 .left)) (omega (arith, c .if5 .taken))
+
+returns-6 : tie.Need-returns-6
+returns-6 c =
+    let else4 = c .before .before in
+    let else2 = else4 .before .before .before .before .before in
+    let here = else2 .before .before in
+    back-accepted (book here) (session here) (none (else2 .before)) _ (else2 .if2 .left) (omega (arith, else4 .before .before .before .if3 .left, else4 .if4 .left)) (omega (arith, c .if5 .left))
 
 pub backtrack-refusal-spec : {M : Type 1} → statement M
 backtrack-refusal-spec =
@@ -73,5 +98,9 @@ backtrack-refusal-spec =
     shared-slice-read-if3
     returns-3
     shared-slice-read-if4
+    sub-if4
+    shared-slice-read-if4-2
     returns-4
-    returns-5)
+    shared-slice-read-if5
+    returns-5
+    returns-6)

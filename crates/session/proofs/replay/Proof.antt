@@ -9,7 +9,7 @@ use Rattle.session.specs.Outcomes.{callsOf, replayNumbers}
 use Rattle.session.proofs.CallLaws.{open-accepted}
 use Rattle.session.proofs.Statements.{statement-3}
 use Rattle.session.proofs.OpenLaws.{open-done, replay-refused, replay-numbers, replay-done}
-use Rattle.session.proofs.ReplayLaws.{Replaying, replaying-none, replaying-decision, replaying-backtrack, replaying-all}
+use Rattle.session.proofs.ReplayLaws.{Replaying, replaying-none, replaying-decision, replaying-fixing, replaying-backtrack, replaying-all}
 use Rattle.session.proofs.replay.Statement.{statement}
 use Rattle.session.proofs.replay.Tie as tie
 
@@ -23,7 +23,7 @@ abbrev μ-loop : tie.MeasureT-loop
 abbrev start : (c : tie.After-open-refusal Inv-loop μ-loop) → tie.Start Inv-loop μ-loop
 start c = c .before .before .before .before
 
--- what the session is where the two kinds of a call meet
+-- what the session is where the kinds of a call meet
 joined : (c : tie.Joined2 Inv-loop μ-loop) →
     let at-loop = c .before .before .before .before in
     let here = at-loop .before .before .before .before .before .before in
@@ -34,7 +34,9 @@ joined c =
     let here = after-open .before .before .before in
     ⊎-elim
     (λ w. replaying-decision (start here .args .book .now) (start here .args .calls .now) (after-open .open .last .1 .0) (in-loop .before .loop .session) _ (in-loop .before .loop .i) (in-loop .before .loop .inv) (in-loop .loop-test .taken) (ap length (w .5) ∙ w .2 .kept .1 .0) (w .0 .taken) (w .5 ∙ w .2 .ensures .1))
-    (λ w. replaying-backtrack (start here .args .book .now) (start here .args .calls .now) (after-open .open .last .1 .0) (in-loop .before .loop .session) _ (in-loop .before .loop .i) (in-loop .before .loop .inv) (in-loop .loop-test .taken) (ap length (w .5) ∙ w .2 .kept .1 .0) (w .0 .left) (w .5 ∙ w .2 .ensures .1))
+    (⊎-elim
+    (λ w. replaying-fixing (start here .args .book .now) (start here .args .calls .now) (after-open .open .last .1 .0) (in-loop .before .loop .session) _ (in-loop .before .loop .i) (in-loop .before .loop .inv) (in-loop .loop-test .taken) (ap length (w .7) ∙ w .4 .kept .1 .0) (w .0 .left) (w .2 .taken) (w .7 ∙ w .4 .ensures .1))
+    (λ w. replaying-backtrack (start here .args .book .now) (start here .args .calls .now) (after-open .open .last .1 .0) (in-loop .before .loop .session) _ (in-loop .before .loop .i) (in-loop .before .loop .inv) (in-loop .loop-test .taken) (ap length (w .7) ∙ w .4 .kept .1 .0) (w .0 .left) (w .2 .left) (w .7 ∙ w .4 .ensures .1)))
     (c .if2 .came)
 
 open-refusal-requires : tie.Need-open-refusal-requires Inv-loop μ-loop
@@ -79,6 +81,17 @@ shared-slice-read-if2 c = omega arith
 
 decide-requires : tie.Need-decide-requires Inv-loop μ-loop
 decide-requires c κs = tt
+
+mul-if3 : tie.Need-mul-if3 Inv-loop μ-loop
+mul-if3 c =
+    let entry = c .before .before .before .before .before .before .before .before .before .before .before .before .before .before in
+    omega (arith, entry .good, c .before .before .before .loop-test .taken)
+
+shared-slice-read-if3 : tie.Need-shared-slice-read-if3 Inv-loop μ-loop
+shared-slice-read-if3 c = omega (arith, c .before .before .before .before .loop-test .taken)
+
+fix-requires : tie.Need-fix-requires Inv-loop μ-loop
+fix-requires c κs = tt
 
 backtrack-requires : tie.Need-backtrack-requires Inv-loop μ-loop
 backtrack-requires c κs = tt
@@ -139,6 +152,9 @@ replay-spec =
     mul-if2
     shared-slice-read-if2
     decide-requires
+    mul-if3
+    shared-slice-read-if3
+    fix-requires
     backtrack-requires
     add-i
     loop-less

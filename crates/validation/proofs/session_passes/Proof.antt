@@ -12,7 +12,7 @@ use Rattle.layout.proofs.FitsLaws.{session-fits, session-trail-fits}
 use Rattle.validation.specs.Inner.Conflict.{AllFalse}
 use Rattle.validation.specs.Inner.Places.{TrailPassed}
 use Rattle.validation.proofs.SaysLaws.{says-test}
-use Rattle.validation.proofs.ValidateLaws.{Built, short-at, trail-to, trail-from, conflict-to, conflict-from, parts-pass, passes-parts, parts-fail}
+use Rattle.validation.proofs.ValidateLaws.{Built, short-at, trail-to, trail-from, header-to, header-from, conflict-to, conflict-from, parts-pass, passes-parts, parts-fail}
 use Rattle.validation.proofs.session_passes.Statement.{statement}
 use Rattle.validation.proofs.session_passes.Tie as tie
 
@@ -20,20 +20,20 @@ use Rattle.validation.proofs.session_passes.Tie as tie
 abbrev start-1 : tie.Else1 → tie.Start
 start-1 c = c .before .before .before .before .before .before
 
-abbrev length-of : tie.After-shared-slice-known4 → tie.Else1
+abbrev length-of : tie.Else3 → tie.Else1
 length-of c = c .before .before .before .before
 
-abbrev start-4 : tie.Else4 → tie.Start
-start-4 c = start-1 (length-of (c .before .before .before))
+abbrev start-3 : tie.Else3 → tie.Start
+start-3 c = start-1 (length-of c)
 
-abbrev trail-of : tie.After-lists-pass → tie.Else4
+abbrev trail-of : tie.After-lists-pass → tie.Else3
 trail-of c = c .before .before .before .before .before
 
-abbrev start-7 : tie.Else7 → tie.Start
-start-7 c = start-4 (trail-of (c .before))
+abbrev start-6 : tie.Else6 → tie.Start
+start-6 c = start-3 (trail-of (c .before))
 
-abbrev conflict-of : tie.Else7 → tie.After-wide
-conflict-of c = trail-of (c .before) .before .before .before .before .before
+abbrev lists-of : tie.After-wide → tie.Else6
+lists-of c = c .before .before
 
 variables-requires : tie.Need-variables-requires
 variables-requires c κs = tt
@@ -57,148 +57,160 @@ returns c =
 enough : (c : tie.Else1) → SessionFits (start-1 c .args .book .now) (start-1 c .args .session .now)
 enough c = record { well = start-1 c .pre; long = omega (arith, c .before .before .before .variables .ensures, c .before .before .clauses .ensures) }
 
-shared-slice-read-wide : tie.Need-shared-slice-read-wide
-shared-slice-read-wide c = omega arith
-
-wide-requires : tie.Need-wide-requires
-wide-requires c κs = tt
+header-passes-requires : tie.Need-header-passes-requires
+header-passes-requires c κs = let long = enough c .long in omega arith
 
 returns-2 : tie.Need-returns-2
-returns-2 c = parts-fail _ _ (start-1 (c .before .before .before) .pre) (λ p. omega (arith, p .built .conflict-within))
-
-shared-slice-read-if3 : tie.Need-shared-slice-read-if3
-shared-slice-read-if3 c = omega arith
-
-returns-3 : tie.Need-returns-3
-returns-3 c = parts-fail _ _ (start-1 (length-of (c .before)) .pre) (λ p. omega (arith, p .built .backtracks-within))
-
-trail-passes-requires : tie.Need-trail-passes-requires
-trail-passes-requires c κs =
-    let long = length-of (c .before) in
-    (omega (arith, well-formed-limited _ (start-1 long .pre)), session-trail-fits _ (long .before .before .before .variables .ensures) (enough long))
-
-returns-4 : tie.Need-returns-4
-returns-4 c =
-    let long = length-of (c .before .before .before) in
+returns-2 c =
+    let long = c .before .before in
     let start = start-1 long in
     parts-fail _ _ (start .pre)
     (λ p.
-    c .before .trail-passes .ensures .no (not-true _ (c .if4 .taken))
+    c .before .header-passes .ensures .no (not-true _ (c .if2 .taken))
+    (header-from (start .args .book .now) (start .args .session .now) _ (long .before .before .clauses .ensures) (p .built .header)))
+
+trail-passes-requires : tie.Need-trail-passes-requires
+trail-passes-requires c κs =
+    let long = c .before .before in
+    (omega (arith, well-formed-limited _ (start-1 long .pre)), session-trail-fits _ (long .before .before .before .variables .ensures) (enough long))
+
+returns-3 : tie.Need-returns-3
+returns-3 c =
+    let long = c .before .before .before .before in
+    let start = start-1 long in
+    parts-fail _ _ (start .pre)
+    (λ p.
+    c .before .trail-passes .ensures .no (not-true _ (c .if3 .taken))
     (trail-from (start .args .book .now) (start .args .session .now) _ (long .before .before .before .variables .ensures) (p .built .trail)))
 
 -- the trail passed
-passed : (c : tie.Else4) → TrailPassed (start-4 c .args .book .now) (start-4 c .args .session .now)
+passed : (c : tie.Else3) → TrailPassed (start-3 c .args .book .now) (start-3 c .args .session .now)
 passed c =
-    let long = length-of (c .before .before .before) in
-    let start = start-4 c in
+    let long = length-of c in
+    let start = start-3 c in
     record {
       enough = enough long;
       good =
           trail-to (start .args .book .now) (start .args .session .now) _ (long .before .before .before .variables .ensures)
-          (c .before .trail-passes .ensures .yes (not-false _ (c .if4 .left)));
+          (c .before .trail-passes .ensures .yes (not-false _ (c .if3 .left)));
     }
 
 justified-requires : tie.Need-justified-requires
 justified-requires c κs = passed c
 
-returns-5 : tie.Need-returns-5
-returns-5 c =
-    parts-fail _ _ (start-4 (c .before .before) .pre) (λ p. c .before .justified .ensures .no (not-true _ (c .if5 .taken)) (p .built .reasons))
+returns-4 : tie.Need-returns-4
+returns-4 c =
+    parts-fail _ _ (start-3 (c .before .before) .pre) (λ p. c .before .justified .ensures .no (not-true _ (c .if4 .taken)) (p .built .reasons))
 
 cells-pass-requires : tie.Need-cells-pass-requires
 cells-pass-requires c κs = passed (c .before .before) .enough
 
-returns-6 : tie.Need-returns-6
-returns-6 c =
-    let else4 = c .before .before .before .before in
-    parts-fail _ _ (start-4 else4 .pre) (λ p. c .before .cells-pass .ensures .no (not-true _ (c .if6 .taken)) (p .built .cells))
+returns-5 : tie.Need-returns-5
+returns-5 c =
+    let else3 = c .before .before .before .before in
+    parts-fail _ _ (start-3 else3 .pre) (λ p. c .before .cells-pass .ensures .no (not-true _ (c .if5 .taken)) (p .built .cells))
 
 lists-pass-requires : tie.Need-lists-pass-requires
 lists-pass-requires c κs =
     let trail = c .before .before .before .before in
     let fits = passed trail .enough in
-    record { well = fits .well; fits = session-fits _ _ refl refl fits; cells = c .before .cells-pass .ensures .yes (not-false _ (c .if6 .left)) }
+    record { well = fits .well; fits = session-fits _ _ refl refl fits; cells = c .before .cells-pass .ensures .yes (not-false _ (c .if5 .left)) }
 
-returns-7 : tie.Need-returns-7
-returns-7 c =
-    parts-fail _ _ (start-4 (trail-of (c .before)) .pre) (λ p. c .before .lists-pass .ensures .no (not-true _ (c .if7 .taken)) (p .built .lists))
+returns-6 : tie.Need-returns-6
+returns-6 c =
+    parts-fail _ _ (start-3 (trail-of (c .before)) .pre) (λ p. c .before .lists-pass .ensures .no (not-true _ (c .if6 .taken)) (p .built .lists))
 
 -- what holds in conflict and out of it
-built : (c : tie.Else7) → Built (start-7 c .args .book .now) (start-7 c .args .session .now)
+built : (c : tie.Else6) → Built (start-6 c .args .book .now) (start-6 c .args .session .now)
 built c =
-    let else5 = c .before .before .before .before in
+    let else4 = c .before .before .before .before in
     let trail = passed (trail-of (c .before)) in
+    let header = trail-of (c .before) .before .before in
+    let start = start-6 c in
     record {
       enough = trail .enough;
-      conflict-within = omega arith;
-      backtracks-within = omega arith;
+      header =
+          header-to (start .args .book .now) (start .args .session .now) _ (header .before .before .before .before .clauses .ensures)
+          (header .before .header-passes .ensures .yes (not-false _ (header .if2 .left)));
       trail = trail .good;
-      reasons = else5 .before .justified .ensures .yes (not-false _ (else5 .if5 .left));
-      cells = c .before .before .before .cells-pass .ensures .yes (not-false _ (c .before .before .if6 .left));
-      lists = c .before .lists-pass .ensures .yes (not-false _ (c .if7 .left));
+      reasons = else4 .before .justified .ensures .yes (not-false _ (else4 .if4 .left));
+      cells = c .before .before .before .cells-pass .ensures .yes (not-false _ (c .before .before .if5 .left));
+      lists = c .before .lists-pass .ensures .yes (not-false _ (c .if6 .left));
     }
 
 -- a number of the session is a 32-bit number
-small : (c : tie.Else7) (i : ℕ) → getD (start-7 c .args .session .now) i 0 ≤ maxCount
+small : (c : tie.Else6) (i : ℕ) → getD (start-6 c .args .session .now) i 0 ≤ maxCount
 small c i =
-    let long = length-of (trail-of (c .before) .before .before .before) in
+    let long = length-of (trail-of (c .before)) in
     omega (arith, long .before .before .before .before .shared-slice-known2 .given i)
 
-fixpoint-requires : tie.Need-fixpoint-requires
-fixpoint-requires c κs = (passed (trail-of (c .before .before)), built (c .before) .cells)
+shared-slice-read-wide : tie.Need-shared-slice-read-wide
+shared-slice-read-wide c = let long = enough (length-of (trail-of (c .before .before))) .long in omega arith
 
-returns-8 : tie.Need-returns-8
-returns-8 c =
-    let quiet = c .before .before in
-    let none : getD (start-7 quiet .args .session .now) conflictAt 0 ≡ 0 = omega arith in
+wide-requires : tie.Need-wide-requires
+wide-requires c κs = tt
+
+fixpoint-requires : tie.Need-fixpoint-requires
+fixpoint-requires c κs =
+    let listed = lists-of (c .before) in
+    (passed (trail-of (listed .before)), built listed .cells)
+
+returns-7 : tie.Need-returns-7
+returns-7 c =
+    let quiet = lists-of (c .before .before) in
+    let none : getD (start-6 quiet .args .session .now) conflictAt 0 ≡ 0 = omega (arith, c .before .before .wide .ensures, c .before .if7 .taken) in
     says-test
     (λ s.
-    parts-pass _ _ (start-7 quiet .pre)
+    parts-pass _ _ (start-6 quiet .pre)
     (record { built = built quiet; quiet = λ _. s; conflict = λ some. absurd (omega arith); lower = λ some. absurd (omega arith) })
     (small quiet))
-    (λ e. passes-parts _ _ (start-7 quiet .pre) e .quiet none)
+    (λ e. passes-parts _ _ (start-6 quiet .pre) e .quiet none)
     (c .fixpoint .ensures)
 
 -- the name of the conflict clause is that of the header
-name-is : (c : tie.Else7) → conflict-of c .wide .result ≡ getD (start-7 c .args .session .now) conflictAt 0
-name-is c = conflict-of c .wide .ensures
+name-is : (c : tie.After-wide) → c .wide .result ≡ getD (start-6 (lists-of c) .args .session .now) conflictAt 0
+name-is c = c .wide .ensures
 
 sub-conflict-false : tie.Need-sub-conflict-false
-sub-conflict-false c = omega arith
+sub-conflict-false c = omega (arith, c .if7 .left)
 
 conflict-false-requires : tie.Need-conflict-false-requires
-conflict-false-requires c κs = (passed (trail-of (c .before .before)), omega arith)
+conflict-false-requires c κs =
+    let listed = lists-of (c .before) in
+    let named = built listed .header .conflict-within in
+    (passed (trail-of (listed .before)), omega (arith, name-is (c .before), c .if7 .left))
+
+returns-8 : tie.Need-returns-8
+returns-8 c =
+    let wide = c .before .before .before in
+    let start = start-6 (lists-of wide) in
+    let some : 0 < getD (start .args .session .now) conflictAt 0 = omega (arith, name-is wide, c .before .before .if7 .left) in
+    parts-fail _ _ (start .pre)
+    (λ p.
+    c .before .conflict-false .ensures .no (not-true _ (c .if8 .taken))
+    (conflict-from (start .args .book .now) (start .args .session .now) _ (name-is wide) (p .conflict some)))
+
+-- the conflict clause has a literal and is all false
+all-false : (c : tie.Else8) →
+    let start = start-6 (lists-of (c .before .before .before)) in
+    AllFalse (formulaOf (start .args .book .now)) (start .args .session .now) (getD (start .args .session .now) conflictAt 0 - 1)
+all-false c =
+    let wide = c .before .before .before in
+    let start = start-6 (lists-of wide) in
+    conflict-to (start .args .book .now) (start .args .session .now) _ (name-is wide)
+    (c .before .conflict-false .ensures .yes (not-false _ (c .if8 .left)))
+
+shared-slice-read-if9 : tie.Need-shared-slice-read-if9
+shared-slice-read-if9 c = let long = enough (length-of (trail-of (lists-of (c .before .before .before .before) .before))) .long in omega arith
 
 returns-9 : tie.Need-returns-9
 returns-9 c =
-    let else7 = c .before .before .before in
-    let start = start-7 else7 in
-    let some : 0 < getD (start .args .session .now) conflictAt 0 = omega arith in
-    parts-fail _ _ (start .pre)
-    (λ p.
-    c .before .conflict-false .ensures .no (not-true _ (c .if9 .taken))
-    (conflict-from (start .args .book .now) (start .args .session .now) _ (name-is else7) (p .conflict some)))
-
--- the conflict clause has a literal and is all false
-all-false : (c : tie.Else9) →
-    let start = start-7 (c .before .before .before) in
-    AllFalse (formulaOf (start .args .book .now)) (start .args .session .now) (getD (start .args .session .now) conflictAt 0 - 1)
-all-false c =
-    let else7 = c .before .before .before in
-    let start = start-7 else7 in
-    conflict-to (start .args .book .now) (start .args .session .now) _ (name-is else7)
-    (c .before .conflict-false .ensures .yes (not-false _ (c .if9 .left)))
-
-shared-slice-read-if10 : tie.Need-shared-slice-read-if10
-shared-slice-read-if10 c = omega arith
-
-returns-10 : tie.Need-returns-10
-returns-10 c =
-    let listed = c .before .before .before .before .before in
-    let some : 0 < getD (start-7 listed .args .session .now) conflictAt 0 = omega arith in
-    let none : getD (start-7 listed .args .session .now) decisionsAt 0 ≡ 0 = omega arith in
+    let wide = c .before .before .before .before .before in
+    let listed = lists-of wide in
+    let some : 0 < getD (start-6 listed .args .session .now) conflictAt 0 = omega arith in
+    let none : getD (start-6 listed .args .session .now) decisionsAt 0 ≡ 0 = omega arith in
     sym
-    (parts-pass _ _ (start-7 listed .pre)
+    (parts-pass _ _ (start-6 listed .pre)
     (record {
       built = built listed;
       quiet = λ e. absurd (omega arith);
@@ -209,20 +221,22 @@ returns-10 c =
 
 fixpoint-requires-2 : tie.Need-fixpoint-requires-2
 fixpoint-requires-2 c κs =
-    let listed = c .before .before .before .before .before in
+    let wide = c .before .before .before .before .before in
+    let listed = lists-of wide in
     (passed (trail-of (listed .before)), built listed .cells)
 
-returns-11 : tie.Need-returns-11
-returns-11 c =
-    let listed = c .before .before .before .before .before .before in
-    let some : 0 < getD (start-7 listed .args .session .now) conflictAt 0 = omega arith in
-    let top : 0 < getD (start-7 listed .args .session .now) decisionsAt 0 = omega arith in
+returns-10 : tie.Need-returns-10
+returns-10 c =
+    let wide = c .before .before .before .before .before .before in
+    let listed = lists-of wide in
+    let some : 0 < getD (start-6 listed .args .session .now) conflictAt 0 = omega arith in
+    let top : 0 < getD (start-6 listed .args .session .now) decisionsAt 0 = omega arith in
     says-test
     (λ s.
-    parts-pass _ _ (start-7 listed .pre)
+    parts-pass _ _ (start-6 listed .pre)
     (record { built = built listed; quiet = λ e. absurd (omega arith); conflict = λ _. all-false (c .before .before .before); lower = λ _ _. s })
     (small listed))
-    (λ e. passes-parts _ _ (start-7 listed .pre) e .lower some top)
+    (λ e. passes-parts _ _ (start-6 listed .pre) e .lower some top)
     (c .fixpoint2 .ensures)
 
 pub session-passes-spec : {M : Type 1} → statement M
@@ -233,25 +247,24 @@ session-passes-spec =
     clauses-requires
     required-length-requires
     returns
+    header-passes-requires
+    returns-2
+    trail-passes-requires
+    returns-3
+    justified-requires
+    returns-4
+    cells-pass-requires
+    returns-5
+    lists-pass-requires
+    returns-6
     shared-slice-read-wide
     wide-requires
-    returns-2
-    shared-slice-read-if3
-    returns-3
-    trail-passes-requires
-    returns-4
-    justified-requires
-    returns-5
-    cells-pass-requires
-    returns-6
-    lists-pass-requires
-    returns-7
     fixpoint-requires
-    returns-8
+    returns-7
     sub-conflict-false
     conflict-false-requires
+    returns-8
+    shared-slice-read-if9
     returns-9
-    shared-slice-read-if10
-    returns-10
     fixpoint-requires-2
-    returns-11)
+    returns-10)

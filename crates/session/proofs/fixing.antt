@@ -1,0 +1,2 @@
+-- The laws of src/fixing.rt.
+pub mod Laws
