@@ -53,7 +53,7 @@ limits_of_the_book() {
     echo "TARIFF_BOOK $((clauses + literals + 4))"
     echo "TARIFF_FEATURES $variables"
     echo "TARIFF_RULES $clauses"
-    echo "TARIFF_SESSION $((5 * variables + 6 * clauses + 4))"
+    echo "TARIFF_SESSION $((5 * variables + 6 * clauses + 5))"
 }
 
 limit() {
@@ -121,11 +121,13 @@ notices "$header" tariff_lookup '/tariff_lookup/s/const uint32_t \*session/uint3
 notices "$header" tariff_lookup '/tariff_lookup/s/book/other/g; /tariff_lookup/s/session/book/g; /tariff_lookup/s/other/session/g'
 notices "$header" tariff_backtrack '/tariff_backtrack/s/uint32_t k/uint64_t k/'
 notices "$header" tariff_backtrack '/tariff_backtrack/s/, uint32_t k//'
+notices "$header" tariff_fix '/tariff_fix\(/s/, uint32_t f//'
+notices "$header" tariff_fixed '/tariff_fixed\(/s/const uint32_t \*session/uint32_t *session/'
 notices "$header" tariff_open '/^uint64_t tariff_open/s/uint64_t/uint32_t/'
 notices "$header" tariff_read '/tariff_read/s/uint8_t/uint32_t/'
 notices "$header" tariff_required_length '/tariff_required_length/s/, size_t book_length//'
 notices "$header" tariff_trail_from 's/uint32_t before, uint32_t \*out, size_t out_length/uint32_t *out, size_t out_length, uint32_t before/'
-notices "$header" TARIFF_SESSION '/define TARIFF_SESSION/s/11504/11503/'
+notices "$header" TARIFF_SESSION '/define TARIFF_SESSION/s/11505/11504/'
 notices "$header" TARIFF_BOOK '/define TARIFF_BOOK/d'
 notices "$header" TARIFF_RULES 's,^#define TARIFF_RULES,// &,'
 notices "$header" TARIFF_FEATURES 's/^#define TARIFF_FEATURES.*/&\n#undef TARIFF_FEATURES/'

@@ -38,7 +38,7 @@ inline std::vector<Numbers> always_met_damage(const Run& run, const Numbers& ses
         damaged.push_back(session);
         damaged.back()[place_of(run, part, i)] = number;
     };
-    change("header", 2, static_cast<uint32_t>(clause) + 1);
+    change("header", CONFLICT, static_cast<uint32_t>(clause) + 1);
     change("watches", 2 * clause, 1);
     change("watches", 2 * clause + 1, 1);
     change("pointers", clause, 1);

@@ -1,14 +1,12 @@
-// Compares `desk` and the library with a run: every line that is printed, and every number after every call.
+// Compares what `desk` prints and what the library answers and leaves with a run.
 #pragma once
 #include <cstddef>
 #include <cstdint>
-#include <functional>
 #include <string>
 #include <vector>
 
 #include "../support/answer.hpp"
 #include "../support/command.hpp"
-#include "always_met.hpp"
 #include "library.hpp"
 #include "numbers.hpp"
 #include "run.hpp"
@@ -74,6 +72,14 @@ inline uint64_t c_answer(const Answer& answer) {
 
 inline uint64_t c_refusal(uint64_t number) { return uint64_t{TARIFF_REFUSED} << 32 | number; }
 
+// What the library has to answer to a call.
+inline uint64_t answer_call(Run& run, const Call& call) {
+    if (call.kind == Call::DECIDE) return c_answer(run.decide(call.number));
+    if (call.kind == Call::BACKTRACK) return c_answer(run.backtrack(call.number));
+    int refusal = run.fix(call.number);
+    return refusal == 0 ? 0 : c_refusal(static_cast<uint64_t>(refusal));
+}
+
 // A book needs C + L + 4 numbers, of the clauses as they are read; in one fewer it is refused by 10.
 inline void compare_room(Random& random, const Formula& formula, const std::string& text) {
     const uint8_t* bytes = reinterpret_cast<const uint8_t*>(text.data());
@@ -83,51 +89,4 @@ inline void compare_room(Random& random, const Formula& formula, const std::stri
     compare_numbers(enough.numbers, book_parts(formula), enough.before);
     compare_number(tariff_read(bytes, text.size(), few.numbers.data(), needed - 1), c_refusal(10), "reading in numbers", needed - 1);
     compare_numbers(few.numbers, {}, few.before);
-}
-
-// How a session is looked at: a wrong view changes what is seen.
-using View = std::function<void(Seen&)>;
-
-inline void compare_seen(const Run& run, const Library& library, const View& view) {
-    Seen seen = library.look();
-    view(seen);
-    size_t needed = compare_numbers(seen.numbers, session_parts(run), library.lent_session().before);
-    compare_number(library.required_length(), needed, "required length", 0);
-    compare_number(seen.counts.size(), run.clauses.size(), "number of counts", 0);
-    const std::string name = "checks of rule";
-    for (size_t i = 0; i < seen.counts.size(); i++) compare_number(seen.counts[i], run.clauses[i].checks, name, i + 1);
-    compare_number(seen.total, run.total(), "total of checks", 0);
-    const uint64_t figures[TARIFF_FIGURES] = {run.starts.size(), run.backtracks, run.trail.size(), run.conflict};
-    for (size_t i = 0; i < TARIFF_FIGURES; i++) compare_number(seen.figures[i], figures[i], "figure", i);
-}
-
-// Every session in which a clause that is always met has a watch, a pointer, a link or a place in a list, or is named, fails the examination.
-inline void compare_always_met(const Run& run, const Library& library) {
-    const Numbers& session = library.lent_session().numbers;
-    size_t i = 0;
-    for (const Numbers& damaged : always_met_damage(run, session))
-        compare_number(library.examine(damaged), c_refusal(12), "answer to a rule that is always met, damage", i++);
-    Numbers counted = session;
-    for (size_t clause = 0; clause < run.clauses.size(); clause++)
-        if (run.formula.clauses[clause].empty()) counted[place_of(run, "checks", clause)] = 0xffffffffu - static_cast<uint32_t>(clause);
-    compare_number(library.examine(counted), TARIFF_FIGURES, "answer to counts of rules that are always met", 0);
-}
-
-inline Answer answer_call(Run& run, const Call& call) { return call.back ? run.backtrack(call.number) : run.decide(call.number); }
-
-// The opening and each call by the library, beside the run; what is seen after each is compared, the book at the end.
-inline void compare_calls(Run& run, Library& library, const std::vector<Call>& calls, const View& view) {
-    size_t i = 0;
-    try {
-        compare_number(library.open(), c_answer(run.open()), "answer", 0);
-        compare_seen(run, library, view);
-        for (const Call& call : calls) {
-            compare_number(library.take(call), c_answer(answer_call(run, call)), "answer", ++i);
-            compare_seen(run, library, view);
-        }
-        compare_numbers(library.lent_book().numbers, book_parts(run.formula), library.lent_book().before);
-        compare_always_met(run, library);
-    } catch (const Disagreement& disagreement) {
-        throw Disagreement("call " + std::to_string(i) + " by the library: " + disagreement.what());
-    }
 }

@@ -10,9 +10,10 @@
 #include "../support/session.hpp"
 #include "numbers.hpp"
 
-// A call of a run: a decision on any number, or a backtrack of any number.
+// A call of a run: a decision on any number, or a backtrack or a fixing of any number.
 struct Call {
-    bool back = false;
+    enum Kind { DECIDE, BACKTRACK, FIX };
+    Kind kind = DECIDE;
     uint32_t number = 0;
 };
 
@@ -22,6 +23,7 @@ struct Seen {
     Numbers counts;      // the checks of each clause
     uint64_t total = 0;  // their sum
     Numbers figures;     // choices, take-backs, settled literals, the conflict clause
+    uint64_t fixed = 0;  // fixed choices
 };
 
 // Lent memory that held anything before; what lies behind a need has to stay.
@@ -46,16 +48,21 @@ public:
     uint64_t open() { return tariff_open(book.numbers.data(), TARIFF_BOOK, session.numbers.data(), session.numbers.size()); }
 
     uint64_t take(const Call& call) {
-        auto function = call.back ? tariff_backtrack : tariff_decide;
+        auto function = call.kind == Call::DECIDE ? tariff_decide : call.kind == Call::BACKTRACK ? tariff_backtrack : tariff_fix;
         return function(book.numbers.data(), TARIFF_BOOK, session.numbers.data(), session.numbers.size(), call.number);
     }
 
     Seen look() const {
-        Seen seen{session.numbers, copied(tariff_checks, book.numbers[1]), 0, copied(tariff_figures, TARIFF_FIGURES)};
+        Seen seen{session.numbers, copied(tariff_checks, book.numbers[1]), 0, copied(tariff_figures, TARIFF_FIGURES), fixed()};
         uint64_t answer = tariff_total(book.numbers.data(), TARIFF_BOOK, session.numbers.data(), session.numbers.size(), &seen.total);
         accepted(answer, "the total");
         return seen;
     }
+
+    uint64_t fixed() const { return tariff_fixed(book.numbers.data(), TARIFF_BOOK, session.numbers.data(), session.numbers.size()); }
+
+    // From here on the session is lent with another number at a place.
+    void lend(size_t place, uint32_t number) { session.numbers[place] = number; }
 
     // What a call answers that examines these numbers in place of the session's.
     uint64_t examine(const Numbers& numbers) const {

@@ -1,10 +1,11 @@
-// Compares every line of `desk`, and every number of a session after every call by the library, with a second run written from document 01.
+// Compares every line of `desk`, and every number of a session after every call by the library, with a second run written from documents 01 and 02.
 #include <algorithm>
 #include <cstddef>
 #include <cstdint>
 #include <iostream>
 #include <stdexcept>
 #include <string>
+#include <utility>
 #include <vector>
 
 #include "../support/bench.hpp"
@@ -13,7 +14,9 @@
 #include "../support/repeats.hpp"
 #include "../support/shapes.hpp"
 #include "../support/totals.hpp"
-#include "judge.hpp"
+#include "calls.hpp"
+#include "fix_tally.hpp"
+#include "fixings.hpp"
 #include "wrong.hpp"
 
 namespace {
@@ -21,6 +24,7 @@ namespace {
 constexpr uint64_t FIRST_SEED = 50030000;
 constexpr int CASES = 4000;
 constexpr int SELF_CHECKS = 120;
+constexpr int ENOUGH = 5;
 
 // The run prints the listing of document 01, and its rules have the checks of the marked points.
 void check_listing() {
@@ -67,18 +71,24 @@ int line_count(Random& random, const Formula& formula) {
     return random.chance(10) ? 4 * lines : lines;
 }
 
-// The calls of a script; a malformed line becomes a call with a number that no line can ask for, or any other.
-std::vector<Call> calls_of(Random& random, const Formula& formula, const std::string& script) {
+// The call of a line; a malformed one becomes a call with a number that no line can ask for, or any other.
+Call call_of(Random& random, const Formula& formula, const std::string& line) {
+    Command command = parse_command(line);
+    if (command.kind == Command::BACKTRACK) return {Call::BACKTRACK, static_cast<uint32_t>(command.number)};
+    if (command.kind == Command::DECIDE) return {Call::DECIDE, literal_number(command.number)};
     uint32_t last = 2 * static_cast<uint32_t>(formula.variables) + 1, any = static_cast<uint32_t>(random.next());
-    std::vector<Call> calls;
+    Call::Kind kind = random.pick(std::vector<Call::Kind>{Call::DECIDE, Call::BACKTRACK});
+    return {kind, random.pick(std::vector<uint32_t>{0, 1, last + 1, last + 2, 0x80000000u, 0xffffffffu, any})};
+}
+
+// The calls of a script, with those behind the opening and behind each line.
+std::vector<Call> calls_of(Random& random, const Formula& formula, const std::string& script, const std::vector<std::vector<Call>>& behind) {
+    std::vector<Call> calls = behind[0];
+    size_t i = 0;
     for (const std::string& line : lines_of(script)) {
-        Command command = parse_command(line);
-        if (command.kind == Command::MALFORMED)
-            calls.push_back({random.chance(50), random.pick(std::vector<uint32_t>{0, 1, last + 1, last + 2, 0x80000000u, 0xffffffffu, any})});
-        else if (command.kind == Command::BACKTRACK)
-            calls.push_back({true, static_cast<uint32_t>(command.number)});
-        else
-            calls.push_back({false, literal_number(command.number)});
+        calls.push_back(call_of(random, formula, line));
+        i++;
+        calls.insert(calls.end(), behind[i].begin(), behind[i].end());
     }
     return calls;
 }
@@ -102,10 +112,13 @@ Generated generate(int number, uint64_t seed) {
     std::string book = random.chance(30) ? Layout(random).print(made.written) : dimacs(made.written);
     Run run(made.formula);
     run.open();
-    Player player(random, [&](const std::vector<int>& decisions) { return led_to(run, decisions); }, is_wide ? random.between(0, 40) : 50);
+    Fixings fixings(random);
+    Player player(
+        random, [&](const std::vector<int>& decisions) { return led_to(run, decisions); }, is_wide ? random.between(0, 40) : 50,
+        [&](int level, bool conflict) { return fixings.put(static_cast<uint32_t>(level), conflict); });
     std::string script = player.write(line_count(random, made.formula)).script;
     made.example = Case{shape.name, seed, book, script, 0};
-    made.calls = calls_of(random, made.formula, script);
+    made.calls = calls_of(random, made.formula, script, fixings.behind);
     made.seed = random.next();
     return made;
 }
@@ -116,51 +129,81 @@ std::vector<std::string> lines_by(const Formula& formula, Fault fault, const std
 }
 
 // The library beside a run, right or wrong, on the book's formula, read rightly or wrongly, and seen so.
-void compare_library(const Generated& made, const Formula& formula, Fault fault, const View& view) {
+void compare_library(const Generated& made, const Formula& formula, Fault fault, const View& view, const Told& told) {
     Random random(made.seed);
     Library library(random, *made.example.book);
     Run run(formula, fault);
-    compare_calls(run, library, made.calls, view);
+    compare_calls(random, run, library, made.calls, view, told);
 }
 
-bool changes_lines(const Wrong& wrong) { return wrong.fault != Fault::NONE || wrong.reading; }
+// A run, right or wrong, by itself: what must stay over each call by the text alone.
+void check_run(const Generated& made, Fault fault) {
+    Run run(made.formula, fault);
+    run.open();
+    Numbers before = session_numbers(run);
+    for (const Call& call : made.calls) {
+        uint64_t answer = answer_call(run, call);
+        Numbers after = session_numbers(run);
+        check_kept(call, answer, before, after, static_cast<size_t>(made.formula.variables));
+        before = std::move(after);
+    }
+}
 
-// How often a wrong run, view or reading was noticed: by the numbers after each call, and by the lines alone.
+template <class Compare>
+bool disagrees(Compare compare) {
+    try {
+        compare();
+    } catch (const Disagreement&) {
+        return true;
+    }
+    return false;
+}
+
+// How often a wrong run, view or reading was noticed: by the numbers after each call, by the lines alone, and by the text alone.
 struct Noticed {
-    int by_numbers = 0, by_lines = 0;
+    int cases = 0, by_numbers = 0, by_lines = 0, by_text = 0;
+
+    // Whether by each way that can show it, in so many cases.
+    bool in(int count, const Wrong& wrong) const {
+        return by_numbers >= count && (!wrong.in_script || by_lines >= count) && (!wrong.in_text || by_text >= count);
+    }
 
     void add(const Generated& made, const Wrong& wrong, const std::vector<std::string>& expected) {
+        cases++;
         Formula formula = wrong.reading ? wrong.reading(made.written) : made.formula;
-        try {
-            compare_library(made, formula, wrong.fault, wrong.view);
-        } catch (const Disagreement&) {
-            by_numbers++;
-        }
-        if (changes_lines(wrong) && lines_by(formula, wrong.fault, made.example.script) != expected) by_lines++;
+        if (disagrees([&] { compare_library(made, formula, wrong.fault, wrong.view, [](const Run&, const Call&) {}); })) by_numbers++;
+        if (wrong.in_script && lines_by(formula, wrong.fault, made.example.script) != expected) by_lines++;
+        if (wrong.in_text && disagrees([&] { check_run(made, wrong.fault); })) by_text++;
+    }
+
+    void print(const Wrong& wrong) const {
+        if (!in(1, wrong)) throw std::runtime_error("not noticed: " + wrong.name);
+        std::cout << wrong.name << " " << by_numbers << " of " << cases;
+        if (wrong.in_script) std::cout << " (" << by_lines << " by lines alone)";
+        if (wrong.in_text) std::cout << " (" << by_text << " by the text alone)";
     }
 };
 
-// Every wrong run, view and reading has to differ from the proved engine in some of the first cases.
+// Every wrong run, view and reading has to differ from the proved engine in some of the first cases; it is tried until it did in enough.
 void check_wrong(int count) {
     std::vector<Noticed> noticed(wrong_list().size());
     for (int number = 0; number < count; number++) {
         Generated made = generate(number, FIRST_SEED + static_cast<uint64_t>(number));
         std::vector<std::string> expected = lines_by(made.formula, Fault::NONE, made.example.script);
-        for (size_t i = 0; i < noticed.size(); i++) noticed[i].add(made, wrong_list()[i], expected);
+        for (size_t i = 0; i < noticed.size(); i++)
+            if (!noticed[i].in(ENOUGH, wrong_list()[i])) noticed[i].add(made, wrong_list()[i], expected);
     }
-    std::cout << "counts: wrong runs, views and readings noticed, in so many of " << count << " cases:";
+    std::cout << "counts: wrong runs, views and readings noticed, in so many of the cases tried:";
     for (size_t i = 0; i < noticed.size(); i++) {
-        const Wrong& wrong = wrong_list()[i];
-        if (noticed[i].by_numbers == 0 || (changes_lines(wrong) && noticed[i].by_lines == 0))
-            throw std::runtime_error("not noticed: " + wrong.name);
-        std::cout << (i == 0 ? " " : ", ") << wrong.name << " " << noticed[i].by_numbers;
-        if (changes_lines(wrong)) std::cout << " (" << noticed[i].by_lines << " by lines alone)";
+        std::cout << (i == 0 ? " " : ", ");
+        noticed[i].print(wrong_list()[i]);
     }
     std::cout << std::endl;
 }
 
 struct Work {
     uint64_t calls = 0, numbers = 0, checks = 0;
+    FixTally fixings;
 };
 
 void run_case(Bench& bench, int number, uint64_t seed, Totals& totals, Work& work) {
@@ -173,28 +216,36 @@ void run_case(Bench& bench, int number, uint64_t seed, Totals& totals, Work& wor
         compare_lines(expected, output);
         Random random(seed);
         compare_room(random, made.formula, *made.example.book);
-        compare_library(made, made.formula, Fault::NONE, [&](Seen& seen) { work.calls++, work.numbers += seen.numbers.size(); });
+        auto view = [&](Seen& seen) { work.calls++, work.numbers += seen.numbers.size(); };
+        auto told = [&](const Run& now, const Call& call) { work.fixings.add(now, call); };
+        compare_library(made, made.formula, Fault::NONE, view, told);
     });
     work.checks += run.total();
 }
 
-// 1,000,000 backtracks are taken by the library, the next is refused by 17, and every check on the way is counted.
+// 1,000,000 backtracks are taken by the library, down to a fixed decision; the next is refused by 17, and by 16 where it reaches that one.
+// Every check on the way is counted.
 void compare_million(const Formula& formula) {
     Random random(FIRST_SEED);
     Library library(random, dimacs(formula));
     Run run(formula);
     View plain = [](Seen&) {};
-    compare_calls(run, library, {}, plain);
     const std::string name = "answer, after take-backs";
-    auto take = [&](bool back, uint32_t number) {
-        Call call{back, number};
-        compare_number(library.take(call), c_answer(answer_call(run, call)), name, run.backtracks);
+    auto take = [&](Call::Kind kind, int number) {
+        Call call{kind, static_cast<uint32_t>(number)};
+        compare_number(library.take(call), answer_call(run, call), name, run.backtracks);
     };
+    auto loose = [&] { return static_cast<int>(run.starts.size() - run.fixed); };
+    compare_opening(run, library, plain);
+    take(Call::DECIDE, 2);
+    take(Call::FIX, 1);
     for (uint64_t i = 0; i <= MAX_BACKTRACKS; i++) {
-        for (int decisions = random.between(1, 2); decisions > 0; decisions--) take(false, static_cast<uint32_t>(random.between(2, 11)));
-        take(true, static_cast<uint32_t>(run.starts.size()));
+        for (int decisions = random.between(1, 2); decisions > 0; decisions--) take(Call::DECIDE, random.between(4, 11));
+        take(Call::BACKTRACK, loose());
         if (i % 1000 >= 998 || i == MAX_BACKTRACKS) compare_seen(run, library, plain);
     }
+    take(Call::BACKTRACK, loose() + 1);
+    compare_seen(run, library, plain);
     std::cout << "counts: by the library " << run.backtracks << " take-backs and " << run.total() << " checks on one book\n";
 }
 
@@ -226,6 +277,7 @@ int test(int argc, char** argv) {
     if (bench.case_count() == CASES) run_million(bench);
     std::cout << "counts: " << work.checks << " checks in the last lines; by the library " << work.numbers << " numbers after " << work.calls
               << " calls\n";
+    work.fixings.print();
     totals.print("counts", bench.seconds());
     return bench.exit_code();
 }

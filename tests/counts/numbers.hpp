@@ -1,5 +1,6 @@
 // The numbers of a book by document 01, and those of a session that holds a run, part by part, by docs/LAYOUT.md.
 #pragma once
+#include <array>
 #include <cstddef>
 #include <cstdint>
 #include <string>
@@ -9,6 +10,9 @@
 #include "run.hpp"
 
 using Numbers = std::vector<uint32_t>;
+
+// The places in the header of a session, and how many there are.
+enum Place { TRAIL_LENGTH, DECISIONS, CONFLICT, BACKTRACKS, FIXED, HEADER };
 
 struct Part {
     std::string name;
@@ -39,6 +43,16 @@ inline Numbers trail_numbers(const Run& run) {
 inline Numbers filled(Numbers numbers, size_t length) {
     numbers.resize(length, 0);
     return numbers;
+}
+
+inline Numbers header_numbers(const Run& run) {
+    Numbers header(HEADER);
+    header[TRAIL_LENGTH] = static_cast<uint32_t>(run.trail.size());
+    header[DECISIONS] = static_cast<uint32_t>(run.starts.size());
+    header[CONFLICT] = static_cast<uint32_t>(run.conflict);
+    header[BACKTRACKS] = static_cast<uint32_t>(run.backtracks);
+    header[FIXED] = run.fixed;
+    return header;
 }
 
 // By variable: 0 open, else 2 x its trail place, from 1, plus 1 if negative.
@@ -84,14 +98,20 @@ inline std::vector<Part> session_parts(const Run& run) {
     auto number = [](auto value) { return static_cast<uint32_t>(value); };
     auto [heads, links] = chains(run);
     return {
-        {"header", {number(run.trail.size()), number(run.starts.size()), number(run.conflict), number(run.backtracks)}},
+        {"header", header_numbers(run)},
         {"trail", filled(trail_numbers(run), variables)},
         {"levels", filled(run.levels(), variables)},
         {"values", value_numbers(run)},
-        {"watches", by_clause(run, [&](const Watched& w) { return Numbers{number(w.positions[0]), number(w.positions[1])}; })},
-        {"pointers", by_clause(run, [&](const Watched& w) { return Numbers{number(w.pointer)}; })},
-        {"checks", by_clause(run, [&](const Watched& w) { return Numbers{w.checks}; })},
+        {"watches", by_clause(run, [&](const Watched& w) { return std::array{number(w.positions[0]), number(w.positions[1])}; })},
+        {"pointers", by_clause(run, [&](const Watched& w) { return std::array{number(w.pointer)}; })},
+        {"checks", by_clause(run, [&](const Watched& w) { return std::array{w.checks}; })},
         {"heads", heads},
         {"links", links},
     };
+}
+
+inline Numbers session_numbers(const Run& run) {
+    Numbers numbers;
+    for (const Part& part : session_parts(run)) numbers.insert(numbers.end(), part.numbers.begin(), part.numbers.end());
+    return numbers;
 }

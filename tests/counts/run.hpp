@@ -1,4 +1,4 @@
-// The written run of document 01, from the paper and not from the definitions or the code: trail, watches, pointers, lists, conflict, counts of checks.
+// The written run, from documents 01 and 02 and not from the definitions or the code: trail, watches, pointers, lists, conflict, fixed decisions, counts.
 #pragma once
 #include <cstddef>
 #include <cstdint>
@@ -15,7 +15,7 @@
 #include "../support/formula.hpp"
 #include "../support/session.hpp"
 
-// One step taken otherwise than document 01 and K4 say.
+// One step taken otherwise than document 01, K4 and K7 say.
 enum class Fault {
     NONE,
     SCANS_FROM_ZERO,     // a scan starts at position 0, not behind the pointer
@@ -25,6 +25,21 @@ enum class Fault {
     KEEPS_UNHANDLED,     // unhandled literals stay to be handled over a backtrack
     PUTS_BEHIND,         // a clause goes to the back of a watch list
     CONTRADICTS_EMPTY,   // a clause of no literals is a conflict at the opening
+    TAKES_FIXED,         // a backtrack reaches fixed decisions
+    FREES_FIXED,         // a backtrack reaches them in a conflict
+    STOPS_ABOVE_FIXED,   // a backtrack down to the fixed decisions is refused
+    COUNT_FIRST,         // 17 is given before 16 where a backtrack reaches them
+    DROPS_FIXED,         // a backtrack leaves no decision fixed
+    OPENS_FIXED,         // an opening leaves as many fixed as before
+    FIXES_DECISIONS,     // a decision fixes one more
+    FIXED_FALLS,         // a fixing of fewer than before is accepted
+    FIXES_BEYOND,        // a fixing of more than are in force is accepted
+    REFUSES_SAME,        // a fixing of as many as before is refused
+    FIXES_IN_CONFLICT,   // a fixing in a conflict is accepted
+    RANGE_FIRST,         // 22 is given before 14
+    FIXES_REFUSED,       // a fixing that is refused fixes
+    COUNTS_FIXING,       // a fixing is counted as a backtrack
+    PASSES_BEYOND,       // a lent session with more fixed than are in force passes
 };
 
 // A literal as a number: 2 x variable, plus 1 if negative.
@@ -44,7 +59,9 @@ public:
         : formula(formula), fault(fault), clauses(formula.clauses.size()), lists(2 * static_cast<size_t>(formula.variables) + 2),
           values(formula.variables + 1, 0) {}
 
+    // Whatever was there before.
     Answer open() {
+        clear();
         for (size_t clause = 0; clause < clauses.size(); clause++)
             if (formula.clauses[clause].size() >= 2) watch_first_two(clause);
         for (size_t clause = 0; clause < clauses.size() && conflict == 0; clause++) {
@@ -61,19 +78,21 @@ public:
         if (refusal != 0) return refused(refusal);
         if (fault == Fault::RESTORES_POINTERS) kept.push_back(clauses);
         starts.push_back(trail.size());
+        if (fault == Fault::FIXES_DECISIONS) fixed++;
         assign(literal_of(number));
         propagate();
         return propagated(literal_of(number), starts.back() + 1);
     }
 
     Answer backtrack(uint32_t k) {
-        if (k == 0 || k > starts.size()) return refused(16);
-        if (backtracks == MAX_BACKTRACKS) return refused(17);
+        int refusal = backtrack_refusal(k);
+        if (refusal != 0) return refused(refusal);
         size_t level = starts.size() - k;
         for (; trail.size() > starts[level]; trail.pop_back()) values[std::abs(trail.back())] = 0;
         starts.resize(level);
         conflict = 0;
         backtracks++;
+        if (fault == Fault::DROPS_FIXED) fixed = 0;
         if (fault != Fault::KEEPS_UNHANDLED) unhandled.clear();  // those of lower levels were handled when their calls ended
         if (fault == Fault::RESTORES_POINTERS) restore_pointers(level);
         Answer answer;
@@ -81,6 +100,17 @@ public:
         answer.number = static_cast<int>(k);
         return answer;
     }
+
+    // The first f decisions are fixed; 0, or the number with which this is refused.
+    int fix(uint32_t f) {
+        int refusal = fix_refusal(f);
+        if (refusal == 0 || fault == Fault::FIXES_REFUSED) fixed = f;
+        if (refusal == 0 && fault == Fault::COUNTS_FIXING) backtracks++;
+        return refusal;
+    }
+
+    // Whether so many fixed decisions pass the examination of a lent session.
+    bool fixed_passes() const { return fixed <= starts.size() || fault == Fault::PASSES_BEYOND; }
 
     Answer end() const {
         Answer answer;
@@ -116,6 +146,7 @@ public:
     std::vector<std::list<size_t>> lists;  // by literal number: clauses, from 0, front to back
     size_t conflict = 0;                   // the conflict clause, from 1; 0 out of conflict
     uint64_t backtracks = 0;
+    uint32_t fixed = 0;  // so many decisions, the oldest ones, are not taken back
 
 private:
     static Answer refused(int number) {
@@ -128,6 +159,43 @@ private:
         if (number < 2 || number > 2 * static_cast<uint32_t>(formula.variables) + 1) return 13;
         if (conflict != 0) return 14;
         return value(literal_of(number)) != 0 ? 15 : 0;
+    }
+
+    bool reaches_fixed(uint32_t k) const {
+        if (fault == Fault::TAKES_FIXED || (fault == Fault::FREES_FIXED && conflict != 0)) return false;
+        size_t above = fault == Fault::STOPS_ABOVE_FIXED && fixed > 0 ? 1 : 0;
+        return k + above + fixed > starts.size();
+    }
+
+    int backtrack_refusal(uint32_t k) const {
+        if (k == 0 || k > starts.size()) return 16;
+        bool worn = backtracks == MAX_BACKTRACKS;
+        if (worn && fault == Fault::COUNT_FIRST) return 17;
+        if (reaches_fixed(k)) return 16;
+        return worn ? 17 : 0;
+    }
+
+    bool outside(uint32_t f) const {
+        if (f == fixed) return fault == Fault::REFUSES_SAME;
+        return f < fixed ? fault != Fault::FIXED_FALLS : f > starts.size() && fault != Fault::FIXES_BEYOND;
+    }
+
+    int fix_refusal(uint32_t f) const {
+        if (outside(f) && fault == Fault::RANGE_FIRST) return 22;
+        if (conflict != 0 && fault != Fault::FIXES_IN_CONFLICT) return 14;
+        return outside(f) ? 22 : 0;
+    }
+
+    void clear() {
+        trail.clear();
+        starts.clear();
+        unhandled.clear();
+        kept.clear();
+        clauses.assign(clauses.size(), Watched{});
+        lists.assign(lists.size(), {});
+        values.assign(values.size(), 0);
+        conflict = backtracks = 0;
+        if (fault != Fault::OPENS_FIXED) fixed = 0;
     }
 
     // What an opening or a decision comes to; the literals from a place on were implied by it.

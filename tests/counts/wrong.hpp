@@ -7,7 +7,7 @@
 #include <utility>
 #include <vector>
 
-#include "judge.hpp"
+#include "calls.hpp"
 #include "run.hpp"
 
 // How the run reads a formula as it is written.
@@ -17,7 +17,9 @@ struct Wrong {
     std::string name;
     Fault fault = Fault::NONE;
     View view = [](Seen&) {};
-    Reader reading = nullptr;  // none: the right one
+    Reader reading = nullptr;               // none: the right one
+    bool in_script = fault != Fault::NONE;  // whether a script can show it
+    bool in_text = false;                   // whether the numbers before and after a call can show it, without another run
 };
 
 inline void drop_counts(Seen& seen) { std::fill(seen.counts.begin(), seen.counts.end(), 0u); }
@@ -36,6 +38,9 @@ inline void swap_counts(Seen& seen) {
     auto other = std::adjacent_find(seen.counts.begin(), seen.counts.end(), [](uint32_t one, uint32_t next) { return one != next; });
     if (other != seen.counts.end()) std::swap(*other, *(other + 1));
 }
+
+// As many as are in force.
+inline void fix_all(Seen& seen) { seen.fixed = seen.figures[TARIFF_CHOICES]; }
 
 // The last of all that were lent.
 inline void change_number(Seen& seen) { seen.numbers.back() ^= 1; }
@@ -81,6 +86,15 @@ inline Formula renumber(const Formula& written) {
 inline Wrong wrong_reading(const std::string& name, Reader reading) {
     Wrong wrong{name};
     wrong.reading = std::move(reading);
+    wrong.in_script = true;
+    return wrong;
+}
+
+// No line of a script fixes.
+inline Wrong wrong_fixing(const std::string& name, Fault fault, bool in_text = true) {
+    Wrong wrong{name, fault};
+    wrong.in_script = false;
+    wrong.in_text = in_text;
     return wrong;
 }
 
@@ -91,6 +105,7 @@ inline const std::vector<Wrong>& wrong_list() {
         {"one too many", Fault::NONE, count_more},
         {"two rules' counts swapped", Fault::NONE, swap_counts},
         {"one number changed", Fault::NONE, change_number},
+        {"all choices told as fixed", Fault::NONE, fix_all},
         {"scans from position 0", Fault::SCANS_FROM_ZERO},
         {"scans rules whose other watch is true", Fault::SCANS_SATISFIED},
         {"puts pointers back on take-back", Fault::RESTORES_POINTERS},
@@ -105,6 +120,21 @@ inline const std::vector<Wrong>& wrong_list() {
         wrong_reading("forces one literal of a feature both ways", by_clause(imply_one_way)),
         wrong_reading("takes just the feature both ways out", by_clause(drop_variable)),
         wrong_reading("gives rules with a feature both ways no number", renumber),
+        wrong_fixing("takes fixed choices back", Fault::TAKES_FIXED),
+        wrong_fixing("takes fixed choices back in contradiction", Fault::FREES_FIXED),
+        wrong_fixing("takes no choice back next to a fixed one", Fault::STOPS_ABOVE_FIXED),
+        wrong_fixing("says 17 for 16 at a fixed choice", Fault::COUNT_FIRST, false),
+        wrong_fixing("fixes none after a take-back", Fault::DROPS_FIXED),
+        wrong_fixing("keeps the fixed choices at an opening", Fault::OPENS_FIXED, false),
+        wrong_fixing("fixes one more at a choice", Fault::FIXES_DECISIONS),
+        wrong_fixing("fixes fewer than before", Fault::FIXED_FALLS),
+        wrong_fixing("fixes more than are in force", Fault::FIXES_BEYOND),
+        wrong_fixing("refuses to fix as many as before", Fault::REFUSES_SAME),
+        wrong_fixing("fixes in contradiction", Fault::FIXES_IN_CONFLICT),
+        wrong_fixing("says 22 for 14", Fault::RANGE_FIRST),
+        wrong_fixing("fixes although it refuses", Fault::FIXES_REFUSED),
+        wrong_fixing("counts a fixing as a take-back", Fault::COUNTS_FIXING),
+        wrong_fixing("passes sessions with too many fixed choices", Fault::PASSES_BEYOND, false),
     };
     return list;
 }

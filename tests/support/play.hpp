@@ -1,5 +1,6 @@
 // Writes a script line by line, as somebody who sees the assignment after each line, and records that assignment.
 #pragma once
+#include <algorithm>
 #include <cstddef>
 #include <cstdlib>
 #include <functional>
@@ -21,6 +22,9 @@ struct Assignment {
 // The assignment that decisions come to.
 using Oracle = std::function<Assignment(const std::vector<int>& decisions)>;
 
+// Told, behind the opening and behind each line, the decisions in force and whether there is a conflict; how many of the first ones stay for good.
+using Floor = std::function<int(int level, bool conflict)>;
+
 struct Play {
     std::string script;
     std::vector<std::shared_ptr<const Assignment>> after;  // the opening, then each line
@@ -29,9 +33,10 @@ struct Play {
 class Player {
 public:
     // Of 100 decisions on an open variable, so many are positive.
-    Player(Random& random, Oracle oracle, int positive = 50) : random(random), oracle(std::move(oracle)), positive(positive) {
+    Player(Random& random, Oracle oracle, int positive = 50, Floor floor = [](int, bool) { return 0; })
+        : random(random), oracle(std::move(oracle)), positive(positive), floor(std::move(floor)) {
         look();
-        play.after.push_back(now);
+        record();
     }
 
     // A style of play for so many lines; the last line may lack its byte 10.
@@ -48,6 +53,7 @@ public:
 private:
     int variables() const { return static_cast<int>(now->values.size()) - 1; }
     int level() const { return static_cast<int>(decisions.size()); }
+    int loose() const { return level() - staying; }
 
     void look() {
         now = std::make_shared<const Assignment>(oracle(decisions));
@@ -56,10 +62,15 @@ private:
             if (now->values[variable] == 0) open.push_back(variable);
     }
 
+    void record() {
+        play.after.push_back(now);
+        staying = floor(level(), now->conflict);
+    }
+
     // Puts a line down, with the assignment after it.
     void put(const std::string& line) {
         play.script += line + "\n";
-        play.after.push_back(now);
+        record();
     }
 
     void decide(int literal) {
@@ -102,8 +113,8 @@ private:
             stray();
         else if (kind < 70 && !open.empty())
             decide(open_literal());
-        else if (level() > 0)
-            backtrack(kind % 3 == 0 ? random.between(1, level()) : 1);
+        else if (loose() > 0)
+            backtrack(kind % 3 == 0 ? random.between(1, loose()) : 1);
         else if (open.empty())
             stray();
     }
@@ -112,16 +123,16 @@ private:
     void climb(size_t lines) {
         while (!open.empty() && play.after.size() <= lines) decide(open_literal());
         if (random.chance(30)) stray();
-        if (level() > 0) backtrack(random.chance(50) ? level() : random.between((level() + 1) / 2, level()));
+        if (loose() > 0) backtrack(random.chance(50) ? loose() : random.between((loose() + 1) / 2, loose()));
     }
 
     // Chronological search: a decision that ends in conflict is taken back and turned round.
     void search(size_t) {
         if (!now->conflict && !open.empty()) {
             decide(open_literal());
-        } else if (level() > 0) {
+        } else if (loose() > 0) {
             int last = decisions.back();
-            backtrack(now->conflict ? 1 : random.between(1, level()));
+            backtrack(now->conflict ? 1 : random.between(1, loose()));
             if (now->values[std::abs(last)] == 0 && !now->conflict && positive > 0) decide(-last);
         } else {
             stray();
@@ -132,11 +143,12 @@ private:
     void repeat(size_t lines) {
         std::vector<int> literals;
         for (int i = random.between(1, 4); i > 0 && !open.empty(); i--) literals.push_back(open_literal());
-        if (literals.empty()) return level() > 0 ? backtrack(level()) : stray();
+        if (literals.empty()) return loose() > 0 ? backtrack(loose()) : stray();
         for (int round = random.between(2, 30); round > 0 && play.after.size() <= lines; round--) {
             int below = level();
             for (int literal : literals)
                 if (!now->conflict && now->values[std::abs(literal)] == 0) decide(literal);
+            below = std::max(below, staying);
             if (level() > below) backtrack(level() - below);
         }
         if (!open.empty() && random.chance(50)) decide(open_literal());
@@ -145,6 +157,8 @@ private:
     Random& random;
     Oracle oracle;
     int positive;
+    Floor floor;
+    int staying = 0;  // so many decisions, the oldest ones, are not taken back
     std::vector<int> decisions;
     std::vector<int> open;  // the open variables; none in a conflict
     std::shared_ptr<const Assignment> now;
