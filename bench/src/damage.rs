@@ -1,5 +1,5 @@
 //! Random damage to lent numbers and to texts.
-use crate::places::places;
+use crate::places::{places, BACKTRACKS, DECISIONS, FIXED, HEADER};
 use crate::random::Random;
 
 /// A copy with one to three numbers changed or swapped, those of the header more often, or cut short.
@@ -11,7 +11,7 @@ pub fn numbers(random: &mut Random, numbers: &[u32]) -> Vec<u32> {
     }
     for _ in 0..1 + random.below(3) {
         let range = if random.once_in(4) {
-            damaged.len().min(4)
+            damaged.len().min(HEADER)
         } else {
             damaged.len()
         };
@@ -48,6 +48,16 @@ pub fn rewatched(random: &mut Random, book: &[u32], session: &[u32]) -> Vec<u32>
         places.push_front(&mut session, book[clauses + 4 + start + position], node);
     }
     session[places.pointers.start + c] = [first, second][random.below(2)] as u32;
+    session
+}
+
+/// A copy in which any number of decisions is fixed, up to one more than are in force; once in a while no more backtracks are accepted.
+pub fn fixed(random: &mut Random, session: &[u32]) -> Vec<u32> {
+    let mut session = session.to_vec();
+    session[FIXED] = random.below(session[DECISIONS] as usize + 2) as u32;
+    if random.once_in(4) {
+        session[BACKTRACKS] = 1_000_000;
+    }
     session
 }
 

@@ -4,7 +4,7 @@ use crate::books;
 use crate::cadical;
 use crate::damage;
 use crate::engine::Engine;
-use crate::places::places;
+use crate::places::{places, CONFLICT, DECISIONS, FIXED, LENGTH};
 use crate::plan::{PLAIN, PROVED};
 use crate::random::Random;
 use crate::script::{session_length, Call, Workload};
@@ -14,17 +14,30 @@ use std::rc::Rc;
 /// Lent numbers behind the required length, which no call may change.
 const MARGIN: usize = 3;
 
+/// One more than the greatest refusal number.
+const REFUSALS: usize = 23;
+
+/// The calls of a list.
+const LIST: usize = 24;
+
 /// How many calls were compared, by what they answered, how many steps left the numbers of the call, how many states CaDiCaL
 /// confirmed afresh, and how many it answered alike when kept, or by what it had learnt.
 #[derive(Default)]
 pub struct Compared {
     pub accepted: usize,
     pub conflicts: usize,
-    pub refused: [usize; 18],
+    pub refused: [usize; REFUSALS],
     pub steps: usize,
     pub confirmed: usize,
     pub alike: usize,
     pub learnt: usize,
+}
+
+/// A number about those at which a backtrack or a fixing begins to be refused.
+fn about(random: &mut Random, session: &[u32]) -> u32 {
+    let [decisions, fixed] = [DECISIONS, FIXED].map(|place| session.get(place).copied().unwrap_or(0));
+    let near = [0, decisions, fixed, decisions.wrapping_sub(fixed)][random.below(4)];
+    near.wrapping_add(random.below(4) as u32).wrapping_sub(1)
 }
 
 impl Compared {
@@ -53,6 +66,7 @@ impl Compared {
         let before = random.below(8) as u32;
         let mut numbers = session.to_vec();
         self.both(&mut numbers, |engine, session| engine.lookup(book, session, variable));
+        self.both(&mut numbers, |engine, session| engine.fixed(book, session));
         let mut copied = vec![u32::MAX; 12];
         self.both(&mut copied, |engine, out| engine.trail_from(book, session, before, out));
         let room = random.below(8);
@@ -72,16 +86,55 @@ impl Compared {
         });
     }
 
-    /// A decision of a random literal and a backtrack of a random k, refused ones among them, on copies.
-    fn random_calls(&mut self, random: &mut Random, book: &[u32], session: &[u32]) {
+    /// A decision of any literal, refused ones among them.
+    fn decision(&mut self, random: &mut Random, book: &[u32], session: &mut Vec<u32>) {
         let literal = random.below(2 * (book[0] as usize % 501) + 4) as u32;
-        let k = random.below(4) as u32;
-        self.both(&mut session.to_vec(), |engine, session| {
-            engine.decide(book, session, literal)
-        });
-        self.both(&mut session.to_vec(), |engine, session| {
-            engine.backtrack(book, session, k)
-        });
+        self.both(session, |engine, session| engine.decide(book, session, literal));
+    }
+
+    /// A backtrack of any k, refused ones among them.
+    fn backtrack(&mut self, random: &mut Random, book: &[u32], session: &mut Vec<u32>) {
+        let k = about(random, session);
+        self.both(session, |engine, session| engine.backtrack(book, session, k));
+    }
+
+    /// A fixing of any f, refused ones among them; the step without examination leaves the same where it is accepted.
+    fn fixing(&mut self, random: &mut Random, book: &[u32], session: &mut Vec<u32>) {
+        let f = about(random, session);
+        let mut stepped = session.clone();
+        let answer = self.both(session, |engine, session| engine.fix(book, session, f));
+        if let Answer::Accepted(_) = answer {
+            // The session passed: the fixing was accepted.
+            unsafe { steps::fix(f, book, &mut stepped) };
+            self.step_left(session, &stepped);
+        }
+    }
+
+    /// A step without examination left the numbers that the call left.
+    fn step_left(&mut self, session: &[u32], stepped: &[u32]) {
+        assert!(session == stepped, "the step without examination differs");
+        self.steps += 1;
+    }
+
+    /// A random call of each kind that changes a session, on copies.
+    fn random_calls(&mut self, random: &mut Random, book: &[u32], session: &[u32]) {
+        self.decision(random, book, &mut session.to_vec());
+        self.backtrack(random, book, &mut session.to_vec());
+        self.fixing(random, book, &mut session.to_vec());
+    }
+
+    /// An opening and random calls, each on the numbers that the one before left.
+    fn list(&mut self, random: &mut Random, book: &[u32]) {
+        let mut session = vec![9; session_length(book) + MARGIN];
+        self.both(&mut session, |engine, session| engine.open(book, session));
+        for _ in 0..LIST {
+            match random.below(6) {
+                0 => self.backtrack(random, book, &mut session),
+                1 => self.fixing(random, book, &mut session),
+                _ => self.decision(random, book, &mut session),
+            }
+        }
+        self.state(random, book, &session);
     }
 
     /// Every call on a damaged copy of the session, and on a damaged copy of the book.
@@ -89,6 +142,9 @@ impl Compared {
         let damaged = damage::numbers(random, session);
         self.random_calls(random, book, &damaged);
         self.reading_calls(random, book, &damaged);
+        let fixed = damage::fixed(random, session);
+        self.random_calls(random, book, &fixed);
+        self.reading_calls(random, book, &fixed);
         let rewatched = damage::rewatched(random, book, session);
         self.random_calls(random, book, &rewatched);
         let broken = damage::numbers(random, book);
@@ -103,7 +159,7 @@ impl Compared {
     /// The values that CaDiCaL propagates are those of the session.
     fn confirm(&mut self, book: &[u32], session: &[u32]) {
         let places = places(book);
-        let levels = &session[places.levels][..session[0] as usize];
+        let levels = &session[places.levels][..session[LENGTH] as usize];
         let decided = |&i: &usize| levels[i] != if i == 0 { 0 } else { levels[i - 1] };
         let trail = &session[places.trail];
         let decisions: Vec<u32> = (0..levels.len()).filter(decided).map(|i| trail[i]).collect();
@@ -112,7 +168,7 @@ impl Compared {
             0 => 0,
             value => 1 - 2 * (value % 2) as i32,
         });
-        let expected = (session[2] == 0).then(|| signs.collect::<Vec<i32>>());
+        let expected = (session[CONFLICT] == 0).then(|| signs.collect::<Vec<i32>>());
         assert!(values == expected, "CaDiCaL propagates otherwise");
         self.confirmed += 1;
     }
@@ -135,8 +191,7 @@ impl Compared {
             self.both(&mut session, |engine, session| call.make(engine, book, session));
             // The script's calls are accepted in a session that passes.
             unsafe { steps::take(call, book, &mut stepped) };
-            assert!(session == stepped, "the step without examination differs");
-            self.steps += 1;
+            self.step_left(&session, &stepped);
             if i % every == 0 {
                 self.state(random, book, &session);
                 self.confirm(book, &session);
@@ -191,6 +246,7 @@ pub fn compare(workloads: &[Rc<Workload>], texts: &[Rc<Vec<u8>>]) -> Compared {
     for _ in 0..1500 {
         let book = books::small(&mut random);
         compared.texts(&mut random, &books::text_of(&book), 6);
+        compared.list(&mut random, &book);
         let workload = Workload::new("small", &mut random, book, 12);
         compared.workload(&mut random, &workload, 2);
     }

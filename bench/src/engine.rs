@@ -7,6 +7,8 @@ pub trait Engine {
     fn open(&self, book: &[u32], session: &mut [u32]) -> Answer;
     fn decide(&self, book: &[u32], session: &mut [u32], literal: u32) -> Answer;
     fn backtrack(&self, book: &[u32], session: &mut [u32], k: u32) -> Answer;
+    fn fix(&self, book: &[u32], session: &mut [u32], f: u32) -> Answer;
+    fn fixed(&self, book: &[u32], session: &[u32]) -> Answer;
     fn lookup(&self, book: &[u32], session: &[u32], variable: u32) -> Answer;
     fn trail_from(&self, book: &[u32], session: &[u32], before: u32, out: &mut [u32]) -> Answer;
     fn figures(&self, book: &[u32], session: &[u32], out: &mut [u32]) -> Answer;

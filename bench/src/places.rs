@@ -1,5 +1,14 @@
-//! The places of a session's parts in its numbers, as docs/LAYOUT.md has them, for those who damage and inspect sessions.
+//! The places of a session's numbers and parts, as docs/LAYOUT.md has them, for the plain engine and for those who damage and inspect sessions.
 use std::ops::Range;
+
+/// The header's numbers, by place: the trail's length, the decisions in force, the conflict clause, the accepted backtracks, the fixed
+/// decisions. And how many they are.
+pub const LENGTH: usize = 0;
+pub const DECISIONS: usize = 1;
+pub const CONFLICT: usize = 2;
+pub const BACKTRACKS: usize = 3;
+pub const FIXED: usize = 4;
+pub const HEADER: usize = 5;
 
 pub struct Places {
     pub trail: Range<usize>,
@@ -14,7 +23,7 @@ pub struct Places {
 /// The places on well-formed book numbers.
 pub fn places(book: &[u32]) -> Places {
     let (variables, clauses) = (book[0] as usize, book[1] as usize);
-    let mut end = 4;
+    let mut end = HEADER;
     let mut part = |length: usize| {
         end += length;
         end - length..end

@@ -8,6 +8,8 @@ extern "C" {
     fn tariff_open(book: *const u32, n: usize, session: *mut u32, m: usize) -> u64;
     fn tariff_decide(book: *const u32, n: usize, session: *mut u32, m: usize, literal: u32) -> u64;
     fn tariff_backtrack(book: *const u32, n: usize, session: *mut u32, m: usize, k: u32) -> u64;
+    fn tariff_fix(book: *const u32, n: usize, session: *mut u32, m: usize, f: u32) -> u64;
+    fn tariff_fixed(book: *const u32, n: usize, session: *const u32, m: usize) -> u64;
     fn tariff_lookup(book: *const u32, n: usize, session: *const u32, m: usize, variable: u32) -> u64;
     fn tariff_trail_from(
         book: *const u32,
@@ -49,6 +51,14 @@ impl Engine for Proved {
         Answer::from_code(unsafe {
             tariff_backtrack(book.as_ptr(), book.len(), session.as_mut_ptr(), session.len(), k)
         })
+    }
+
+    fn fix(&self, book: &[u32], session: &mut [u32], f: u32) -> Answer {
+        Answer::from_code(unsafe { tariff_fix(book.as_ptr(), book.len(), session.as_mut_ptr(), session.len(), f) })
+    }
+
+    fn fixed(&self, book: &[u32], session: &[u32]) -> Answer {
+        Answer::from_code(unsafe { tariff_fixed(book.as_ptr(), book.len(), session.as_ptr(), session.len()) })
     }
 
     fn lookup(&self, book: &[u32], session: &[u32], variable: u32) -> Answer {

@@ -1,7 +1,7 @@
 //! Workloads: a book and a script of accepted decisions and backtracks on it.
 use crate::answer::Answer;
 use crate::engine::Engine;
-use crate::places::places;
+use crate::places::{places, CONFLICT, DECISIONS};
 use crate::plain::Plain;
 use crate::random::Random;
 
@@ -36,8 +36,8 @@ fn open_literal(random: &mut Random, book: &[u32], session: &[u32]) -> Option<u3
 
 /// The next call: a backtrack in conflict, at the end of the variables and once in a while, else a decision.
 fn next_call(random: &mut Random, book: &[u32], session: &[u32]) -> Option<Call> {
-    let decisions = session[1] as usize;
-    let literal = open_literal(random, book, session).filter(|_| session[2] == 0);
+    let decisions = session[DECISIONS] as usize;
+    let literal = open_literal(random, book, session).filter(|_| session[CONFLICT] == 0);
     if decisions > 0 && (literal.is_none() || random.once_in(12)) {
         return Some(Call::Backtrack(1 + random.below(decisions.min(8)) as u32));
     }

@@ -1,5 +1,5 @@
 //! Sessions that fail validation at the very end of one stage, so that a call on them costs all up to it.
-use crate::places::places;
+use crate::places::{places, CONFLICT, DECISIONS, LENGTH};
 use crate::plain::Plain;
 use crate::script::{Call, Workload};
 
@@ -15,9 +15,12 @@ pub const STAGES: [(&str, &str); 5] = [
 /// Whether every stage can fail at its end: the last variable is open, and the last level has its decision only.
 fn suits(book: &[u32], session: &[u32]) -> bool {
     let places = places(book);
-    let count = session[0] as usize;
+    let count = session[LENGTH] as usize;
     let levels = &session[places.levels];
-    count >= 2 && session[2] == 0 && session[places.values.end - 1] == 0 && levels[count - 1] == levels[count - 2] + 1
+    count >= 2
+        && session[CONFLICT] == 0
+        && session[places.values.end - 1] == 0
+        && levels[count - 1] == levels[count - 2] + 1
 }
 
 /// The session, damaged so that it fails at the end of stage `stage`.
@@ -27,9 +30,9 @@ fn damaged(book: &[u32], session: &[u32], stage: usize) -> Vec<u32> {
     match stage {
         0 => session[places.values.end - 1] = 1,
         1 => {
-            let last = places.levels.start + session[0] as usize - 1;
+            let last = places.levels.start + session[LENGTH] as usize - 1;
             session[last] -= 1;
-            session[1] -= 1;
+            session[DECISIONS] -= 1;
         }
         2 => session[places.pointers.end - 1] = 255,
         3 => places.unlink(&mut session, places.links.len()),

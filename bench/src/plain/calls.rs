@@ -4,6 +4,7 @@ use super::layout::{self, Parts};
 use super::propagation::Run;
 use super::validation;
 use crate::answer::Answer;
+use crate::places::{BACKTRACKS, CONFLICT, DECISIONS, FIXED, LENGTH};
 
 type Outcome = Result<Answer, u32>;
 
@@ -24,8 +25,8 @@ fn run<'a>(formula: &'a Formula, session: &'a mut [u32]) -> Run<'a> {
 
 /// The answer of a call that propagated, from the header; the trail had `before` literals.
 fn propagated(session: &[u32], before: u32) -> Answer {
-    match session[2] {
-        0 => Answer::Accepted(session[0] - before),
+    match session[CONFLICT] {
+        0 => Answer::Accepted(session[LENGTH] - before),
         name => Answer::Conflict(name),
     }
 }
@@ -50,27 +51,45 @@ pub fn decide(book: &[u32], session: &mut [u32], literal: u32) -> Outcome {
     if literal < 2 || literal as usize > 2 * formula.variables + 1 {
         return Err(13);
     }
-    if parts.header[2] != 0 {
+    if parts.header[CONFLICT] != 0 {
         return Err(14);
     }
     if parts.values[literal as usize / 2 - 1] != 0 {
         return Err(15);
     }
-    let before = parts.header[0] + 1;
+    let before = parts.header[LENGTH] + 1;
     run(&formula, session).decide(literal);
     Ok(propagated(session, before))
 }
 
 pub fn backtrack(book: &[u32], session: &mut [u32], k: u32) -> Outcome {
     let (formula, parts) = validated(book, session)?;
-    if k == 0 || k > parts.header[1] {
+    if k == 0 || k > parts.header[DECISIONS] - parts.header[FIXED] {
         return Err(16);
     }
-    if parts.header[3] >= 1_000_000 {
+    if parts.header[BACKTRACKS] >= 1_000_000 {
         return Err(17);
     }
     run(&formula, session).backtrack(k);
     Ok(Answer::Accepted(0))
+}
+
+pub fn fix(book: &[u32], session: &mut [u32], f: u32) -> Outcome {
+    let (_, parts) = validated(book, session)?;
+    if parts.header[CONFLICT] != 0 {
+        return Err(14);
+    }
+    if f < parts.header[FIXED] || f > parts.header[DECISIONS] {
+        return Err(22);
+    }
+    session[FIXED] = f;
+    Ok(Answer::Accepted(0))
+}
+
+/// How many decisions are fixed.
+pub fn fixed(book: &[u32], session: &[u32]) -> Outcome {
+    let (_, parts) = validated(book, session)?;
+    Ok(Answer::Accepted(parts.header[FIXED]))
 }
 
 /// 0 open, 1 positive, 2 negative.
@@ -94,14 +113,15 @@ fn copied(numbers: &[u32], out: &mut [u32]) -> Answer {
 
 pub fn trail_from(book: &[u32], session: &[u32], before: u32, out: &mut [u32]) -> Outcome {
     let (_, parts) = validated(book, session)?;
-    let trail = &parts.trail[..parts.header[0] as usize];
+    let trail = &parts.trail[..parts.header[LENGTH] as usize];
     Ok(copied(trail.get(before as usize..).unwrap_or(&[]), out))
 }
 
 /// Decisions in force, accepted backtracks, trail length, conflict clause.
 pub fn figures(book: &[u32], session: &[u32], out: &mut [u32]) -> Outcome {
     let (_, parts) = validated(book, session)?;
-    Ok(copied(&[1, 3, 0, 2].map(|place| parts.header[place]), out))
+    let places = [DECISIONS, BACKTRACKS, LENGTH, CONFLICT];
+    Ok(copied(&places.map(|place| parts.header[place]), out))
 }
 
 pub fn checks(book: &[u32], session: &[u32], out: &mut [u32]) -> Outcome {

@@ -1,6 +1,5 @@
 //! The parts of a session's numbers, as docs/LAYOUT.md has them.
-
-pub const HEADER: usize = 4;
+use crate::places::HEADER;
 
 /// The parts, shared (`&[u32]`) or lent (`&mut [u32]`).
 pub struct Parts<S> {

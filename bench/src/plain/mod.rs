@@ -37,6 +37,14 @@ impl Engine for Plain {
         answer(calls::backtrack(book, session, k))
     }
 
+    fn fix(&self, book: &[u32], session: &mut [u32], f: u32) -> Answer {
+        answer(calls::fix(book, session, f))
+    }
+
+    fn fixed(&self, book: &[u32], session: &[u32]) -> Answer {
+        answer(calls::fixed(book, session))
+    }
+
     fn lookup(&self, book: &[u32], session: &[u32], variable: u32) -> Answer {
         answer(calls::lookup(book, session, variable))
     }

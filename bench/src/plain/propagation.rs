@@ -1,6 +1,7 @@
 //! The run on a valid session: opening, decision, propagation, backtrack.
 use super::formula::Formula;
 use super::layout::Parts;
+use crate::places::{BACKTRACKS, CONFLICT, DECISIONS, LENGTH};
 
 /// A formula with the session that is changed.
 pub struct Run<'a> {
@@ -53,7 +54,7 @@ impl Run<'_> {
                 continue;
             };
             if self.is_false(literal) {
-                self.session.header[2] = c as u32 + 1;
+                self.session.header[CONFLICT] = c as u32 + 1;
                 return false;
             }
             if !self.is_true(literal) {
@@ -65,8 +66,8 @@ impl Run<'_> {
 
     /// A new level with this literal, then propagation.
     pub fn decide(&mut self, literal: u32) {
-        let handled = self.session.header[0] as usize;
-        self.session.header[1] += 1;
+        let handled = self.session.header[LENGTH] as usize;
+        self.session.header[DECISIONS] += 1;
         self.assign(literal);
         self.propagate(handled);
     }
@@ -74,18 +75,18 @@ impl Run<'_> {
     /// The last k levels leave the trail, and a conflict is over.
     pub fn backtrack(&mut self, k: u32) {
         let session = &mut self.session;
-        let level = session.header[1] - k;
-        let mut count = session.header[0] as usize;
+        let level = session.header[DECISIONS] - k;
+        let mut count = session.header[LENGTH] as usize;
         while count > 0 && session.levels[count - 1] > level {
             count -= 1;
             session.values[session.trail[count] as usize / 2 - 1] = 0;
             session.trail[count] = 0;
             session.levels[count] = 0;
         }
-        session.header[0] = count as u32;
-        session.header[1] = level;
-        session.header[2] = 0;
-        session.header[3] += 1;
+        session.header[LENGTH] = count as u32;
+        session.header[DECISIONS] = level;
+        session.header[CONFLICT] = 0;
+        session.header[BACKTRACKS] += 1;
     }
 
     pub fn value(&self, literal: u32) -> u32 {
@@ -105,11 +106,11 @@ impl Run<'_> {
     /// The literal joins the trail at the present level.
     fn assign(&mut self, literal: u32) {
         let session = &mut self.session;
-        let count = session.header[0] as usize;
+        let count = session.header[LENGTH] as usize;
         session.trail[count] = literal;
-        session.levels[count] = session.header[1];
+        session.levels[count] = session.header[DECISIONS];
         session.values[literal as usize / 2 - 1] = 2 * (count as u32 + 1) + literal % 2;
-        session.header[0] += 1;
+        session.header[LENGTH] += 1;
     }
 
     fn push_front(&mut self, literal: u32, node: usize) {
@@ -120,7 +121,7 @@ impl Run<'_> {
 
     /// Handles the trail literals behind the first `handled`, in trail order, up to a conflict.
     fn propagate(&mut self, mut handled: usize) {
-        while handled < self.session.header[0] as usize {
+        while handled < self.session.header[LENGTH] as usize {
             let literal = self.session.trail[handled] ^ 1;
             let mut before = 0;
             let mut node = self.session.heads[literal as usize - 2] as usize;
@@ -154,7 +155,7 @@ impl Run<'_> {
             self.push_front(clause[position], node);
             Visit::Moved
         } else if self.is_false(other) {
-            self.session.header[2] = c as u32 + 1;
+            self.session.header[CONFLICT] = c as u32 + 1;
             Visit::Conflict
         } else {
             self.assign(other);

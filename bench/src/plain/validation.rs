@@ -1,14 +1,16 @@
 //! The validation of a lent session: trail, reasons, watches, watch lists, and the fixpoint of propagation.
 use super::formula::Formula;
 use super::layout::Parts;
+use crate::places::{BACKTRACKS, CONFLICT, DECISIONS, FIXED, LENGTH};
 
 type Shared<'a> = Parts<&'a [u32]>;
 
 /// Whether the numbers are those of a valid run.
 pub fn passes(formula: &Formula, session: &Shared) -> bool {
-    let conflict = session.header[2] as usize;
+    let conflict = session.header[CONFLICT] as usize;
     conflict <= formula.clauses()
-        && session.header[3] <= 1_000_000
+        && session.header[BACKTRACKS] <= 1_000_000
+        && session.header[FIXED] <= session.header[DECISIONS]
         && trail_passes(session)
         && reasons_pass(formula, session)
         && watches_pass(formula, session)
@@ -21,7 +23,7 @@ pub fn passes(formula: &Formula, session: &Shared) -> bool {
 
 /// Trail, levels and values agree, and nothing lies behind the end of the trail.
 fn trail_passes(session: &Shared) -> bool {
-    let count = session.header[0] as usize;
+    let count = session.header[LENGTH] as usize;
     if count > session.trail.len() {
         return false;
     }
@@ -38,7 +40,7 @@ fn trail_passes(session: &Shared) -> bool {
             return false;
         }
     }
-    before == session.header[1]
+    before == session.header[DECISIONS]
         && session.trail[count..].iter().all(|&number| number == 0)
         && session.levels[count..].iter().all(|&number| number == 0)
         && session.values.iter().filter(|&&value| value != 0).count() == count
@@ -76,7 +78,7 @@ fn reasons_pass(formula: &Formula, session: &Shared) -> bool {
         implied[implied_place(clause, session.values)] = true;
     }
     let mut before = 0;
-    for (i, &level) in session.levels[..session.header[0] as usize].iter().enumerate() {
+    for (i, &level) in session.levels[..session.header[LENGTH] as usize].iter().enumerate() {
         if level == before && !implied[i + 1] {
             return false;
         }
@@ -163,7 +165,7 @@ fn fixpoint(formula: &Formula, session: &Shared, limit: u32) -> bool {
 
 /// The conflict clause has literals, all false, and the trail without its top level is at the fixpoint.
 fn conflict_passes(formula: &Formula, session: &Shared, c: usize) -> bool {
-    let decisions = session.header[1];
+    let decisions = session.header[DECISIONS];
     let clause = formula.clause(c);
     let is_false = |&literal: &u32| level_of(session, u32::MAX, literal ^ 1).is_some();
     !clause.is_empty() && clause.iter().all(is_false) && (decisions == 0 || fixpoint(formula, session, decisions))
