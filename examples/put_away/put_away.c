@@ -1,4 +1,5 @@
-/* Opens a session on a tariff, puts its numbers away in a file, takes them up again and goes on; then damages one number, and runs into a contradiction. */
+/* Opens a session on a tariff, fixes its first choice, puts its numbers away in a file, takes them up again and goes on; then damages one number,
+ * is refused a take-back of the fixed choice, and runs into a contradiction. */
 #include <tariff.h>
 #include <stdio.h>
 #include <stdlib.h>
@@ -69,16 +70,19 @@ int main(int count, char **words) {
     size_t needed = tariff_number(tariff_required_length(book, TARIFF_BOOK));
     say("open", tariff_open(book, TARIFF_BOOK, session, needed));
     say("choose -1", tariff_decide(book, TARIFF_BOOK, session, needed, tariff_barred(1)));
+    say("fix 1", tariff_fix(book, TARIFF_BOOK, session, needed, 1));
     put_away(words[2], needed);
     memset(session, 255, sizeof session);
     say("lookup 1 in other numbers", tariff_lookup(book, TARIFF_BOOK, session, needed, 1));
     size_t length = take_up(words[2]);
     say("lookup 1 in the numbers taken up", tariff_lookup(book, TARIFF_BOOK, session, length, 1));
+    say("fixed in the numbers taken up", tariff_fixed(book, TARIFF_BOOK, session, length));
     say("choose -2", tariff_decide(book, TARIFF_BOOK, session, length, tariff_barred(2)));
     say_figures(length);
-    session[4] ^= 1;
+    session[5] ^= 1;
     say("back 1 with the first settled literal turned", tariff_backtrack(book, TARIFF_BOOK, session, length, 1));
-    session[4] ^= 1;
+    session[5] ^= 1;
+    say("back 2, which reaches the fixed choice", tariff_backtrack(book, TARIFF_BOOK, session, length, 2));
     say("back 1", tariff_backtrack(book, TARIFF_BOOK, session, length, 1));
     say("choose 5", tariff_decide(book, TARIFF_BOOK, session, length, tariff_wanted(5)));
     say_figures(length);
