@@ -25,6 +25,16 @@ static inline uint32_t tariff_number(uint64_t answer) { return (uint32_t)answer;
 static inline uint32_t tariff_wanted(uint32_t feature) { return 2 * feature; }
 static inline uint32_t tariff_barred(uint32_t feature) { return 2 * feature + 1; }
 
+/* What a lookup says: the state of the feature and, where it is wanted or barred, its level. Level n is that of the n-th choice in force, which settled
+ * the feature or is the feature's own; level 0 is that of the opening; the highest is 500. In the other states there is no level, and tariff_level means
+ * nothing. The number of an accepted answer is 0 if open, 4 x level + 1 if wanted, 4 x level + 2 if barred. */
+#define TARIFF_IS_OPEN 0
+#define TARIFF_IS_WANTED 1
+#define TARIFF_IS_BARRED 2
+#define TARIFF_IS_REFUSED 3
+static inline uint32_t tariff_state(uint64_t answer) { return tariff_kind(answer) == TARIFF_ACCEPTED ? tariff_number(answer) % 4 : TARIFF_IS_REFUSED; }
+static inline uint32_t tariff_level(uint64_t answer) { return tariff_number(answer) / 4; }
+
 /* The places of the figures, and how many there are. */
 #define TARIFF_CHOICES 0    /* choices in force */
 #define TARIFF_TAKE_BACKS 1 /* accepted take-backs */
@@ -72,8 +82,8 @@ uint64_t tariff_fix(const uint32_t *book, size_t book_length, uint32_t *session,
  * Refuses: 11, 12. */
 uint64_t tariff_fixed(const uint32_t *book, size_t book_length, const uint32_t *session, size_t session_length);
 
-/* How a feature is settled, in contradiction too.
- * Accepted: 0 open, 1 wanted, 2 barred. Writes nothing.
+/* How a feature is settled and since which choice, in contradiction too.
+ * Accepted: its state and level, which tariff_state and tariff_level take out of the answer. Writes nothing.
  * Refuses: 11, 12, 13 for a number that is no feature. */
 uint64_t tariff_lookup(const uint32_t *book, size_t book_length, const uint32_t *session, size_t session_length, uint32_t feature);
 

@@ -1,5 +1,7 @@
 -- The answers as numbers for C: the kind times 2 ^ 32, and the number. Kind 0 is accepted, 1 a conflict, 2 a refusal.
-use Prim.Native.Nat.{ℕ, _+_, _*_}
+use Prim.Native.Nat.{ℕ, _+_, _*_, _/_, _%_, _≤_, _<_}
+use mathlib.Core.Path.{_≡_}
+use mathlib.Core.Logic.{_⊎_}
 use mathlib.Core.List.{List, [], _∷_}
 use Rattle.base.specs.Lists.{copied}
 use Rattle.book.specs.declared.Reading.{Reading}
@@ -39,12 +41,20 @@ abbrev pub backCode : Back → ℕ
 backCode back.Done = 0
 backCode (back.Refused number) = refusalCode number
 
--- lookup: 0 open, 1 positive (the paper's wanted), 2 negative (barred), or the refusal
+-- lookup: 0 open, 4 × level + 1 positive (the paper's wanted), 4 × level + 2 negative (barred), or the refusal
 abbrev pub assignedCode : Assigned → ℕ
 assignedCode assigned.Open = 0
-assignedCode assigned.Positive = 1
-assignedCode assigned.Negative = 2
+assignedCode (assigned.Positive level) = 4 * level + 1
+assignedCode (assigned.Negative level) = 4 * level + 2
 assignedCode (assigned.Refused number) = refusalCode number
+
+-- so a caller takes the number apart: below 2 ^ 32 it is accepted, and the remainder by 4 tells the sign and the quotient the level; else it is of kind 2
+pub record LookupTold (code : ℕ) (answer : Assigned) : Type 0 where
+  pub accepted : code < 4294967296
+      → (code ≤ 2002)
+      × (((code ≡ 0) × (answer ≡ assigned.Open))
+      ⊎ (((code % 4 ≡ 1) × (answer ≡ assigned.Positive (code / 4))) ⊎ ((code % 4 ≡ 2) × (answer ≡ assigned.Negative (code / 4)))))
+  pub refused : 4294967296 ≤ code → (code / 4294967296 ≡ 2) × (answer ≡ assigned.Refused (code % 4294967296))
 
 -- how many there are, numbers or fixed decisions, or the refusal
 abbrev pub countCode : Count → ℕ

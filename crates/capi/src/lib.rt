@@ -50,8 +50,8 @@ fn assigned_code(assigned: session::Assigned) -> u64
 {
     match assigned {
         session::Assigned::Open => 0,
-        session::Assigned::Positive => 1,
-        session::Assigned::Negative => 2,
+        session::Assigned::Positive(level) => 4 * level as u64 + 1,
+        session::Assigned::Negative(level) => 4 * level as u64 + 2,
         session::Assigned::Refused(number) => refusal(number),
     }
 }
@@ -135,7 +135,7 @@ pub extern "C" fn tariff_fixed(book: &[u32], session: &[u32]) -> u64
     count_code(session::fixed(book, session))
 }
 
-// How a variable is assigned.
+// How a variable is assigned, and at which level.
 #[no_mangle]
 pub extern "C" fn tariff_lookup(book: &[u32], session: &[u32], variable: u32) -> u64
     ensures { λ r. ⌜ r ≡ assignedCode (lookupAnswer (now (book .entry)) (now (session .entry)) variable) ⌝ }

@@ -1,21 +1,22 @@
 -- What the values of the numbers that hold a trail say of a literal.
 use Prim.Native.Nat.{ℕ, suc, _+_, _*_, _-_, _%_, _≤_, _<_}
 use native.Mathlib.Omega.{arith}
-use mathlib.Core.Bool.{true}
+use mathlib.Core.Bool.{Bool, true, false, cond}
 use mathlib.Core.List.{List}
 use mathlib.Core.Logic.{inl, inr, ⊎-elim}
-use mathlib.Core.Path.{_≡_, sym, ap, _∙_}
+use mathlib.Core.Path.{_≡_, refl, sym, ap, _∙_}
 use borrow.Author.Tests.{eq-eqb, ne-eqb}
 use lib.ListN.{length, getD, take, drop, length-take, length-drop}
 use lib.Seq.{getD-take, getD-drop}
 use Rattle.base.specs.Lists.{distinct}
 use Rattle.book.specs.Formula.{variableOf}
-use Rattle.run.specs.Trail.{Entry, opposite, place, variablesOn}
+use Rattle.run.specs.Trail.{Entry, opposite, place, isTrue, isFalse, variablesOn}
 use Rattle.run.proofs.Opposites.{OppositeCase, opposite-cases, opposite-opposite}
 use Rattle.run.proofs.Trails.{place-true, place-untrue, consistent}
 use Rattle.layout.specs.Layout.{valuesAt, watchesAt, valueNumber, valueSlot}
 use Rattle.layout.specs.Encodes.{TrailHeld}
 use Rattle.layout.specs.Values.{valueRead, valueIn, Reads}
+use Rattle.layout.specs.declared.values.Value.{Value}
 use Rattle.layout.specs.declared.values.Value.the-variants.{Open, True, False}
 use Rattle.layout.proofs.TrailLaws.{ValueCase, value-cases}
 
@@ -44,6 +45,36 @@ in-false trail l h o = rw (place-untrue trail l h, place-true trail (opposite l)
 in-open : (trail : List Entry) (l : ℕ) → place trail l ≡ 0 → place trail (opposite l) ≡ 0 → valueIn trail l ≡ Open
 unfolding valueIn
 in-open trail l h o = rw (place-untrue trail l h, place-untrue trail (opposite l) o)
+
+-- and what it says of the literal
+module _ (trail : List Entry) (l : ℕ) where
+  signs : (value : Value) → valueIn trail l ≡ value → (t f : Bool) → isTrue trail l ≡ t → isFalse trail l ≡ f → value ≡ cond t True (cond f False Open)
+  unfolding valueIn
+  signs value e t f p q = sym e ∙ rw (p, q) refl
+
+  pub value-true : valueIn trail l ≡ True → isTrue trail l ≡ true
+  value-true e = go (isTrue trail l) (isFalse trail l) refl refl
+    where
+      go : (t f : Bool) → isTrue trail l ≡ t → isFalse trail l ≡ f → t ≡ true
+      go true f p q = refl
+      go false true p q = let w = signs True e false true p q in let z : _≡_ {A = ℕ} 0 1 = cc in absurd (omega arith)
+      go false false p q = let w = signs True e false false p q in let z : _≡_ {A = ℕ} 0 1 = cc in absurd (omega arith)
+
+  pub value-false : valueIn trail l ≡ False → (isTrue trail l ≡ false) × (isFalse trail l ≡ true)
+  value-false e = go (isTrue trail l) (isFalse trail l) refl refl
+    where
+      go : (t f : Bool) → isTrue trail l ≡ t → isFalse trail l ≡ f → (t ≡ false) × (f ≡ true)
+      go true f p q = let w = signs False e true f p q in let z : _≡_ {A = ℕ} 0 1 = cc in absurd (omega arith)
+      go false true p q = (refl, refl)
+      go false false p q = let w = signs False e false false p q in let z : _≡_ {A = ℕ} 0 1 = cc in absurd (omega arith)
+
+  pub value-open : valueIn trail l ≡ Open → (isTrue trail l ≡ false) × (isFalse trail l ≡ false)
+  value-open e = go (isTrue trail l) (isFalse trail l) refl refl
+    where
+      go : (t f : Bool) → isTrue trail l ≡ t → isFalse trail l ≡ f → (t ≡ false) × (f ≡ false)
+      go true f p q = let w = signs Open e true f p q in let z : _≡_ {A = ℕ} 0 1 = cc in absurd (omega arith)
+      go false true p q = let w = signs Open e false true p q in let z : _≡_ {A = ℕ} 0 1 = cc in absurd (omega arith)
+      go false false p q = (refl, refl)
 
 -- the value of a variable says what the trail says of its literals
 pub value-reads : (trail : List Entry) (l : ℕ) → distinct (variablesOn trail) ≡ true

@@ -2,3 +2,4 @@
 pub mod Points
 pub mod K4
 pub mod K7
+pub mod K5

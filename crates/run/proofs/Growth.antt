@@ -1,18 +1,19 @@
 -- What the opening's one-literal clauses and propagation add to the trail: implied literals only, behind those that were there.
-use Prim.Native.Nat.{ℕ, zero, suc, _≤_, _<_}
+use Prim.Native.Nat.{ℕ, zero, suc, _<_}
 use native.Mathlib.Omega.{arith}
 use mathlib.Core.Bool.{Bool, true, false, cond, not}
 use mathlib.Core.List.{List, [], _∷_, _++_}
 use mathlib.Core.Logic.{⊎-elim, _↔_}
-use mathlib.Core.Path.{_≡_, refl, sym, ap, _∙_}
+use mathlib.Core.Path.{_≡_, refl, ap}
 use lib.Dec.{ltb, eqb}
 use lib.ListN.{length, getD}
 use Rattle.base.specs.Lists.{all, distinct}
 use Rattle.base.proofs.Bools.{below}
-use Rattle.book.specs.Formula.{Formula, variableOf}
-use Rattle.run.specs.Trail.{Entry, place, isTrue, isFalse, decisions, variablesOn}
+use Rattle.book.specs.Formula.{Formula}
+use Rattle.run.specs.Trail.{Entry, place, isTrue, isFalse, decisions, variablesOn, lowered}
 use Rattle.run.specs.Run.{Run, clauseOf, cellOf, Action, stays, moves, implies, conflicts, otherWatch, action, onTrail, withWatches, withConflict, counted, performAction, visit, inConflict, readList, propagateFrom, assignUnit, assignUnits}
-use Rattle.run.proofs.Trails.{place-cases, place-within, place-true, true-place, newest-apart, rest-distinct}
+use Rattle.run.proofs.Trails.{place-within, place-true, true-place}
+use Rattle.run.proofs.Levels.{Suffix, whole, newer, suffix-place, suffix-on}
 use Rattle.run.proofs.Inductions.{read-induction, readNext, nextRead}
 
 -- the trail `old` with some implied literals more
@@ -28,29 +29,21 @@ grown-by (more l g) =
     let r = grown-by g in
     (record { literal = l; decided = false } ∷ r .0, r .1, ap (λ (t : List Entry). record { literal = l; decided = false } ∷ t) (r .2))
 
--- implied literals are no decisions, and change no place of the trail before them
+-- implied literals are no decisions, and the trail before them is the older part
 pub grown-decisions : {old trail : List Entry} → Grown old trail → decisions trail ≡ decisions old
 unfolding decisions
 grown-decisions same = refl
 grown-decisions (more l g) = grown-decisions g
 
-pub grown-longer : {old trail : List Entry} → Grown old trail → length old ≤ length trail
-grown-longer same = omega arith
-grown-longer (more l g) = let h = grown-longer g in omega arith
+pub grown-suffix : {old trail : List Entry} → Grown old trail → Suffix old trail
+grown-suffix same = whole
+grown-suffix (more l g) = newer (record { literal = l; decided = false }) (grown-suffix g)
 
-grown-within : {old trail : List Entry} → Grown old trail → (m : ℕ) → place trail m ≤ length old → place trail m ≡ place old m
-grown-within same m h = refl
-grown-within (more l {trail} g) m h =
-    ⊎-elim (λ p. absurd (omega (arith, grown-longer g))) (λ p. p .1 ∙ grown-within g m (omega arith))
-    (place-cases (record { literal = l; decided = false }) trail m)
-
-grown-older : {old trail : List Entry} → Grown old trail → distinct (variablesOn trail) ≡ true → (m : ℕ) → 0 < place old m
-    → place trail m ≡ place old m
-grown-older same d m h = refl
-grown-older {old} (more l {trail} g) d m h =
-    let e : Entry = record { literal = l; decided = false } in
-    let rest : place trail m ≡ place old m = grown-older g (rest-distinct e trail d) m h in
-    ⊎-elim (λ p. absurd (newest-apart e trail m d (omega arith) (ap variableOf (sym (p .0))))) (λ p. p .1 ∙ rest) (place-cases e trail m)
+-- above a decision they are all of its level
+pub grown-lowered : {l : ℕ} {old trail : List Entry} → Grown (record { literal = l; decided = true } ∷ old) trail → lowered trail ≡ old
+unfolding lowered
+grown-lowered same = refl
+grown-lowered (more m g) = grown-lowered g
 
 -- the literals behind the places of the trail before are those that were not true there
 pub grown-gains : {old trail : List Entry} → Grown old trail → distinct (variablesOn trail) ≡ true → (m : ℕ)
@@ -58,10 +51,10 @@ pub grown-gains : {old trail : List Entry} → Grown old trail → distinct (var
 grown-gains {old} {trail} g d m = (
   λ h. (
     place-true trail m (omega arith),
-    λ t. let p = grown-older g d m (true-place old m t) in absurd (omega (arith, place-within old m)),
+    λ t. let p = suffix-on (grown-suffix g) m d (true-place old m t) in absurd (omega (arith, place-within old m)),
   ),
   λ k. ⊎-elim (λ h. h)
-      (λ h. absurd (k .1 (place-true old m (let p = grown-within g m h in omega (arith, true-place trail m (k .0))))))
+      (λ h. absurd (k .1 (place-true old m (let p = suffix-place (grown-suffix g) m h in omega (arith, true-place trail m (k .0))))))
       (below (length old) (place trail m)),
 )
 

@@ -12,7 +12,7 @@ use Rattle.base.specs.Lists.{distinct}
 use Rattle.base.proofs.Bools.{alike, below, never}
 use Rattle.book.specs.Formula.{variableOf}
 use Rattle.run.specs.Trail.{Entry, place, isTrue, variablesOn, decisions, level, lowered, cut}
-use Rattle.run.proofs.Trails.{PlaceCase, place-cases, place-old, place-within, true-grows, rest-distinct, newest-apart}
+use Rattle.run.proofs.Trails.{PlaceCase, true-place, place-true, place-cases, place-old, place-within, true-grows, rest-distinct, newest-apart}
 
 -- a trail that is the end of another: its older part
 pub data Suffix (old : List Entry) : List Entry → Type 0 where
@@ -107,6 +107,13 @@ suffix-level {old} (newer e {trail} s) l h = go (place-cases e trail l) (level-c
     go (inl p) q shorter rest = absurd (omega arith)
     go (inr p) (inl q) shorter rest = absurd (p .0 (q .0))
     go (inr p) (inr q) shorter rest = rest (omega arith) ∙ sym (q .1)
+
+-- what is true on the older part is at the same level on the whole trail
+pub suffix-level-on : {old trail : List Entry} → Suffix old trail → (l : ℕ) → distinct (variablesOn trail) ≡ true → isTrue old l ≡ true
+    → level trail l ≡ level old l
+suffix-level-on {old} s l once t =
+    let here = suffix-on s l once (true-place old l t) in
+    sym (suffix-level s l (omega (arith, place-within old l)))
 
 -- the trail without its top level
 abbrev pub LoweredCase : Entry → List Entry → Type 0
@@ -211,3 +218,30 @@ cut-decisions (suc k) trail =
     ∙ ap (drop k) (lowered-decisions trail)
     ∙ drop-drop k 1 (decisions trail)
     ∙ ap (λ (n : ℕ). drop n (decisions trail)) one-more
+
+-- what is at no higher level than those that are left lies on what is left
+cut-place : (k : ℕ) (trail : List Entry) (l : ℕ) → k ≤ length (decisions trail) → level trail l ≤ length (decisions trail) - k
+    → place trail l ≤ length (cut k trail)
+unfolding cut
+cut-place zero trail l few low = place-within trail l
+cut-place (suc k) trail l few low =
+    let under = below-top trail l (omega arith) in
+    let here = suffix-place (lowered-suffix trail) l under in
+    let same = suffix-level (lowered-suffix trail) l under in
+    let rest = cut-place k (lowered trail) l (omega (arith, lowered-count trail)) (omega (arith, lowered-count trail)) in
+    omega arith
+
+-- so it stays true there, at its level; and what is true there is at no higher level
+pub true-below-cut : (k : ℕ) (trail : List Entry) (l : ℕ) → k ≤ length (decisions trail) → level trail l ≤ length (decisions trail) - k
+    → isTrue trail l ≡ true → (isTrue (cut k trail) l ≡ true) × (level (cut k trail) l ≡ level trail l)
+true-below-cut k trail l few low t =
+    let under = cut-place k trail l few low in
+    let here = suffix-place (cut-suffix k trail) l under in
+    (place-true (cut k trail) l (omega (arith, true-place trail l t)), suffix-level (cut-suffix k trail) l under)
+
+pub level-on-cut : (k : ℕ) (trail : List Entry) (l : ℕ) → distinct (variablesOn trail) ≡ true → isTrue (cut k trail) l ≡ true
+    → level trail l ≤ length (decisions trail) - k
+level-on-cut k trail l once t =
+    let same = suffix-level-on (cut-suffix k trail) l once t in
+    let left : length (decisions (cut k trail)) ≡ length (decisions trail) - k = ap length (cut-decisions k trail) ∙ length-drop k (decisions trail) in
+    omega (arith, level-within (cut k trail) l)

@@ -18,6 +18,7 @@ pub mod ClosureLaws
 pub mod AsWritten
 pub mod MetLaws
 pub mod Theorems
+pub mod Since
 pub mod Fixed
 pub mod CeilingClause
 pub mod CeilingRun

@@ -19,12 +19,12 @@ use Rattle.run.specs.Calls.{Call, decision, backtrackBy, fixBy, decideRe
 use Rattle.run.specs.Valid.{Valid}
 use Rattle.run.specs.Closure.{Closure, UnitClosed, Contains, BothWays}
 use Rattle.run.proofs.ScanLaws.{scan-found}
-use Rattle.run.proofs.Growth.{Grown, same, grown-by, grown-decisions, grown-longer, grown-gains, units-grow, propagating-grows}
+use Rattle.run.proofs.Growth.{Grown, same, grown-by, grown-decisions, grown-suffix, grown-gains, units-grow, propagating-grows}
 use Rattle.run.proofs.Validity.{propagated, fuel-enough, decision-accepted, decision-going, decided-valid, backtrack-accepted, backtracked-valid, fix-accepted, fixed-valid}
 use Rattle.run.proofs.Opening.{opening-state}
 use Rattle.run.proofs.ClosureLaws.{closure-within, closure-holds, closure-closed, closure-grows, assigned-closure, conflict-both-ways}
 use Rattle.run.proofs.MetLaws.{all-met}
-use Rattle.run.proofs.Levels.{suffix-append, cut-suffix, cut-decisions}
+use Rattle.run.proofs.Levels.{suffix-length, suffix-append, cut-suffix, cut-decisions}
 use Rattle.run.proofs.Actions.{Case, staying, moving, implying, conflicting, action-case}
 
 -- Every reference run is valid.
@@ -121,7 +121,7 @@ open-grown formula =
     propagating-grows (suc (formula .variables)) formula 0 [] (assignUnits 0 (formula .clauses) (fresh formula))
     (units-grow 0 (formula .clauses) [] (fresh formula) same)
 
-decide-grown : (formula : Formula) (l : ℕ) (run : Run) → Grown (record { literal = l; decided = true } ∷ run .trail) (decide formula l run .trail)
+pub decide-grown : (formula : Formula) (l : ℕ) (run : Run) → Grown (record { literal = l; decided = true } ∷ run .trail) (decide formula l run .trail)
 unfolding decide onTrail
 decide-grown formula l run =
     propagating-grows (suc (formula .variables)) formula (length (run .trail)) (record { literal = l; decided = true } ∷ run .trail)
@@ -137,7 +137,7 @@ decide-decisions formula l run = grown-decisions (decide-grown formula l run)
 
 -- What a decision gains on the trail: the literals behind its own place.
 pub decide-longer : (formula : Formula) (l : ℕ) (run : Run) → length (run .trail) < length (decide formula l run .trail)
-decide-longer formula l run = grown-longer (decide-grown formula l run)
+decide-longer formula l run = suffix-length (grown-suffix (decide-grown formula l run))
 
 pub decide-gains : (formula : Formula) (l : ℕ) (run : Run) → distinct (variablesOn (decide formula l run .trail)) ≡ true → (m : ℕ)
     → (suc (length (run .trail)) < place (decide formula l run .trail) m)

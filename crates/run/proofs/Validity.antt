@@ -239,12 +239,22 @@ backtrack-accepted k run z = go (leb 1 k && leb (k + run .fixed) (length (decisi
     go true p true q z = absurd (omega arith)
     go false p b q z = absurd (omega arith)
 
-pub backtracked-valid : {formula : Formula} (k : ℕ) (run : Run) → Valid formula run → 1 ≤ k → k + run .fixed ≤ length (decisions (run .trail))
-    → run .backtracks < maxBacktracks
-    → Valid formula (backtrack k run)
-unfolding backtrack cut
-backtracked-valid {formula} zero run v one most few = absurd (omega arith)
-backtracked-valid {formula} (suc k) run v one most few =
+-- below the last k levels a valid run is valid, in conflict too, with any figures within their bounds
+pub cut-valid : {formula : Formula} (k : ℕ) (run : Run) (backtracks fixed : ℕ) → Valid formula run → 1 ≤ k → k + fixed ≤ length (decisions (run .trail))
+    → backtracks ≤ maxBacktracks
+    → Valid formula
+    (record {
+      trail = cut k (run .trail);
+      cells = run .cells;
+      lists = run .lists;
+      conflict = 0;
+      checks = run .checks;
+      backtracks = backtracks;
+      fixed = fixed;
+    })
+unfolding cut
+cut-valid {formula} zero run backtracks fixed v one most few = absurd (omega arith)
+cut-valid {formula} (suc k) run backtracks fixed v one most few =
     going-valid {handled = length (cut (suc k) (run .trail))}
     (record {
       structure =
@@ -262,6 +272,12 @@ backtracked-valid {formula} (suc k) run v one most few =
           (pending-below v (omega arith));
     })
     (omega arith)
+
+pub backtracked-valid : {formula : Formula} (k : ℕ) (run : Run) → Valid formula run → 1 ≤ k → k + run .fixed ≤ length (decisions (run .trail))
+    → run .backtracks < maxBacktracks
+    → Valid formula (backtrack k run)
+unfolding backtrack
+backtracked-valid k run = cut-valid k run (suc (run .backtracks)) (run .fixed)
 
 -- what an accepted fixing says, and what it leaves
 pub fix-accepted : (f : ℕ) (run : Run) → fixRefusal f run ≡ 0

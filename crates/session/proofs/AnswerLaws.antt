@@ -1,11 +1,11 @@
 -- Decision, backtrack, lookup and what only reads, way out by way out: the refusals in their order, and what an accepted call answers and leaves.
 use Rattle.run.proofs.Opposites.{opposite-positive}
 use Rattle.layout.specs.Layout.{lengthAt, decisionsAt, conflictAt, backtracksAt, fixedAt, requiredLength, held}
-use Rattle.book.specs.Formula.{maxVariables, literalWithin}
+use Rattle.book.specs.Formula.{maxVariables, literalWithin, positive, negative}
 use Rattle.session.proofs.PassedLaws.{refused-first, none-first, well, own-refusal, facts, holding, long, conflict-is, decisions-are, count-is, count-within, backtracks-are, fixed-are}
 use Rattle.session.proofs.OpenLaws.{head-answer, becomes-overwritten}
 use Prim.Native.Nat.{ℕ, suc, _+_, _*_, _≤_, _<_}
-use mathlib.Core.Path.{_≡_, refl, sym, _∙_}
+use mathlib.Core.Path.{_≡_, refl, ap, sym, _∙_}
 use mathlib.Core.Bool.{and-false, Bool, true, false, cond, _&&_, _||_}
 use mathlib.Core.List.{List}
 use mathlib.Core.Logic.{_⊎_, inl, inr, ⊎-elim}
@@ -15,7 +15,7 @@ use lib.Dec.{leb}
 use lib.ListN.{length, getD}
 use Rattle.book.specs.Numbers.{formulaOf, variablesOf, clausesOf}
 use Rattle.book.proofs.WellFormedLaws.{well-formed-sound}
-use Rattle.run.specs.Trail.{isTrue, isFalse, decisions}
+use Rattle.run.specs.Trail.{Entry, isTrue, isFalse, decisions, level}
 use Rattle.run.specs.Run.{Run, decide, backtrack}
 use Rattle.run.specs.Calls.{decideRefusal, backtrackRefusal, maxBacktracks}
 use Rattle.run.proofs.Theorems.{decide-valid, backtrack-valid, decide-longer}
@@ -23,9 +23,9 @@ use Rattle.run.proofs.Fixed.{none-or-over-16}
 use Rattle.validation.specs.Validation.{readRefusal}
 use Rattle.session.specs.Outcomes.{sessionDecideRefusal, decideAnswer, decideNumbers, sessionBacktrackRefusal, backtrackAnswer, backtrackNumbers, lookupRefusal, lookupAnswer, figuresAnswer, totalAnswer, copyAnswer, copyNumbers}
 use Rattle.layout.specs.Values.{valueIn}
+use Rattle.layout.proofs.ValueLaws.{value-true, value-false, value-open}
 use Rattle.engine.specs.Engine.{Becomes, Holding}
 use Rattle.session.specs.Inner.Answers.{headAnswer}
-use Rattle.session.specs.declared.Assigned.{Assigned}
 use Rattle.layout.specs.declared.values.Value.{Value}
 use Rattle.session.specs.declared.Answer.the-variants as answer
 use Rattle.session.specs.declared.Back.the-variants as back
@@ -34,6 +34,10 @@ use Rattle.session.specs.declared.Shown.the-variants as shown
 use Rattle.session.specs.declared.Count.the-variants as count
 use Rattle.session.specs.declared.Sum.the-variants as total
 use Rattle.layout.specs.declared.values.Value.the-variants as value
+
+-- what a lookup itself refuses
+abbrev pub variableRefusal : List ℕ → ℕ → Run → ℕ
+variableRefusal book v run = cond (leb 1 v && leb v (variablesOf book)) 0 13
 
 module _ (book session : List ℕ) where
   module _ (none : 0 ≡ readRefusal book session) where
@@ -68,14 +72,7 @@ module _ (book session : List ℕ) where
             ∙ rw (inside, eq-eqb (held (formulaOf book) session .conflict) 0 (sym (conflict-is book session none) ∙ quiet), p, q)
 
         pub decision-open : value.Open ≡ valueIn (held (formulaOf book) session .trail) l → 0 ≡ sessionDecideRefusal book session l
-        unfolding valueIn
-        decision-open e = go (isTrue (held (formulaOf book) session .trail) l) (isFalse (held (formulaOf book) session .trail) l) refl refl e
-          where
-            go : (t f : Bool) → isTrue (held (formulaOf book) session .trail) l ≡ t → isFalse (held (formulaOf book) session .trail) l ≡ f
-                → value.Open ≡ cond t value.True (cond f value.False value.Open) → 0 ≡ sessionDecideRefusal book session l
-            go true f p q z = let w : _≡_ {A = ℕ} 0 1 = cc in absurd (omega arith)
-            go false true p q z = let w : _≡_ {A = ℕ} 0 1 = cc in absurd (omega arith)
-            go false false p q z = sym (by-value false false p q)
+        decision-open e = let none-true = value-open (held (formulaOf book) session .trail) l (sym e) in sym (by-value false false (none-true .0) (none-true .1))
 
         pub decision-assigned : (v : Value) → (v ≡ value.Open → ⊥) → v ≡ valueIn (held (formulaOf book) session .trail) l → 15 ≡ sessionDecideRefusal book session l
         unfolding valueIn
@@ -110,7 +107,7 @@ module _ (book session : List ℕ) where
     -- a lookup
     outside-variable : (v : ℕ) → (leb 1 v && leb v (variablesOf book)) ≡ false → assigned.Refused 13 ≡ lookupAnswer book session v
     unfolding lookupAnswer lookupRefusal
-    outside-variable v e = rw (own-refusal book session none (λ (run : Run). cond (leb 1 v && leb v (variablesOf book)) 0 13), e)
+    outside-variable v e = rw (own-refusal book session none (variableRefusal book v), e)
 
     pub variable-none : (v : ℕ) → v ≡ 0 → assigned.Refused 13 ≡ lookupAnswer book session v
     variable-none v z = outside-variable v (rw (lt-leb 1 v (omega arith)))
@@ -118,21 +115,30 @@ module _ (book session : List ℕ) where
     pub variable-over : (v : ℕ) → variablesOf book < v → assigned.Refused 13 ≡ lookupAnswer book session v
     variable-over v h = outside-variable v (rw (lt-leb v (variablesOf book) h) (and-false (leb 1 v)))
 
-    abbrev pub shownAs : Value → Assigned
-    shownAs value.Open = assigned.Open
-    shownAs value.True = assigned.Positive
-    shownAs value.False = assigned.Negative
+    -- what is read for the positive literal of a variable is what is answered, with the level of the literal that is true
+    module _ (v : ℕ) (low : 1 ≤ v) (high : v ≤ variablesOf book) where
+      abbrev trail : List Entry
+      trail = held (formulaOf book) session .trail
 
-    pub variable-is : (v : ℕ) → (v ≡ 0 → ⊥) → v ≤ variablesOf book → shownAs (valueIn (held (formulaOf book) session .trail) (2 * v)) ≡ lookupAnswer book session v
-    unfolding lookupAnswer lookupRefusal valueIn
-    variable-is v n h =
-        rw (own-refusal book session none (λ (run : Run). cond (leb 1 v && leb v (variablesOf book)) 0 13), le-leb 1 v (omega (arith, n)), le-leb v (variablesOf book) h, opposite-positive v)
-        (go (isTrue (held (formulaOf book) session .trail) (2 * v)) (isTrue (held (formulaOf book) session .trail) (2 * v + 1)))
-      where
-        go : (t f : Bool) → shownAs (cond t value.True (cond f value.False value.Open)) ≡ cond t assigned.Positive (cond f assigned.Negative assigned.Open)
-        go true f = refl
-        go false true = refl
-        go false false = refl
+      pub answered-by : (t f : Bool) → isTrue trail (positive v) ≡ t → isTrue trail (negative v) ≡ f
+          → lookupAnswer book session v ≡ cond t (assigned.Positive (level trail (positive v))) (cond f (assigned.Negative (level trail (negative v))) assigned.Open)
+      unfolding lookupAnswer lookupRefusal
+      answered-by t f p q =
+          rw (own-refusal book session none (variableRefusal book v), le-leb 1 v low, le-leb v (variablesOf book) high, p, q)
+
+      negative-is : isTrue trail (negative v) ≡ isFalse trail (positive v)
+      negative-is = ap (isTrue trail) (sym (opposite-positive v))
+
+      pub answered-open : value.Open ≡ valueIn trail (positive v) → assigned.Open ≡ lookupAnswer book session v
+      answered-open e = let none-true = value-open trail (positive v) (sym e) in sym (answered-by false false (none-true .0) (negative-is ∙ none-true .1))
+
+      pub answered-true : value.True ≡ valueIn trail (positive v) → (isTrue trail (positive v) ≡ true) × (assigned.Positive (level trail (positive v)) ≡ lookupAnswer book session v)
+      answered-true e = let t = value-true trail (positive v) (sym e) in (t, sym (answered-by true (isTrue trail (negative v)) t refl))
+
+      pub answered-false : value.False ≡ valueIn trail (positive v) → (isTrue trail (negative v) ≡ true) × (assigned.Negative (level trail (negative v)) ≡ lookupAnswer book session v)
+      answered-false e =
+          let other = value-false trail (positive v) (sym e) in
+          (negative-is ∙ other .1, sym (answered-by false true (other .0) (negative-is ∙ other .1)))
 
   -- what a refused session call answers and leaves
   pub decide-refused : (l n : ℕ) → n ≡ sessionDecideRefusal book session l → (n ≡ 0 → ⊥) → (answer.Refused n ≡ decideAnswer book session l) × (session ≡ decideNumbers book session l)
@@ -145,7 +151,7 @@ module _ (book session : List ℕ) where
 
   pub lookup-refused : (v n : ℕ) → n ≡ readRefusal book session → (n ≡ 0 → ⊥) → assigned.Refused n ≡ lookupAnswer book session v
   unfolding lookupAnswer lookupRefusal
-  lookup-refused v n e h = rw (← (refused-first book session (λ (run : Run). cond (leb 1 v && leb v (variablesOf book)) 0 13) n e h), ne-eqb n 0 h)
+  lookup-refused v n e h = rw (← (refused-first book session (variableRefusal book v) n e h), ne-eqb n 0 h)
 
   pub total-refused : (n : ℕ) → n ≡ readRefusal book session → (n ≡ 0 → ⊥) → total.Refused n ≡ totalAnswer book session
   unfolding totalAnswer

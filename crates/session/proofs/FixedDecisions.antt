@@ -1,33 +1,63 @@
 -- The fixed decisions of every session that passes: they stay; the way back out of a conflict, and where there is none; what a fixing stores; an opening fixes nothing.
-use Prim.Native.Nat.{ℕ, _-_}
+use Prim.Native.Nat.{ℕ, _-_, _≤_}
 use native.Mathlib.Omega.{arith}
 use mathlib.Core.Path.{_≡_, refl, ap, sym, _∙_}
 use mathlib.Core.Bool.{true, false, cond}
-use mathlib.Core.List.{List, []}
+use mathlib.Core.List.{List, [], _∷_}
 use lib.Dec.{leb}
 use lib.ListN.{length, set}
-use Rattle.base.specs.Lists.{member}
-use Rattle.base.proofs.Members.{member-behind}
 use Rattle.book.specs.Formula.{Formula, positive, negative, literalWithin}
-use Rattle.book.specs.Numbers.{wellFormed, formulaOf, variablesOf}
+use Rattle.book.specs.Numbers.{wellFormed, formulaOf}
 use Rattle.book.proofs.WellFormedLaws.{well-formed-sound}
-use Rattle.book.proofs.SoundLaws.{literal-parts}
-use Rattle.run.specs.Trail.{isTrue, decisions}
+use Rattle.run.specs.Trail.{decisions, level}
 use Rattle.run.specs.Run.{Run, inConflict, openRun, fix}
-use Rattle.run.specs.Calls.{Call, maxBacktracks, decideRefusal, backtrackRefusal, fixRefusal, stepAll, oldestDecisions}
+use Rattle.run.specs.Calls.{Call, maxBacktracks, decideRefusal, backtrackRefusal, fixRefusal, stepAll}
 use Rattle.run.specs.Valid.{Valid}
-use Rattle.run.proofs.ClosureLaws.{decisions-true}
 use Rattle.run.proofs.Theorems.{open-valid, all-valid}
+use Rattle.run.proofs.Since.{oldest-low}
 use Rattle.run.proofs.Fixed.{open-fixed, fixed-never-falls, fixed-stay, conflict-way-back, conflict-decide, conflict-fix, stuck, stuck-backtrack}
 use Rattle.layout.specs.Layout.{fixedAt, encode, held}
 use Rattle.validation.specs.Validation.{readRefusal}
-use Rattle.session.specs.Outcomes.{overwritten, openRefusal, openNumbers, sessionDecideRefusal, sessionBacktrackRefusal, sessionFixRefusal, fixNumbers, fixedAnswer, playedNumbers}
+use Rattle.session.specs.Outcomes.{overwritten, openRefusal, openNumbers, sessionDecideRefusal, sessionBacktrackRefusal, sessionFixRefusal, fixNumbers, fixedAnswer, lookupAnswer, callNumbers, playedNumbers}
 use Rattle.session.specs.Statement.{FixedStay}
+use Rattle.session.specs.declared.Assigned.the-variants.{Positive, Negative}
 use Rattle.session.specs.declared.Count.the-variants.{Of}
 use Rattle.session.proofs.CallLaws.{held-overwritten, call-refusal, played, open-accepted}
-use Rattle.session.proofs.PassedLaws.{well, facts, own-refusal}
-use Rattle.session.proofs.Statements.{whole, fixed-after, shows-positive, shows-negative}
+use Rattle.session.proofs.PassedLaws.{well, facts, own-refusal, true-within}
+use Rattle.session.proofs.Statements.{whole, fixed-after, call-holds, call-passes}
+use Rattle.session.proofs.LookupLaws.{shows-positive, shows-negative, positive-shown, negative-shown}
+use Rattle.session.proofs.ShownLevels.{levels-after}
 use Rattle.session.proofs.fixing.Laws.{fix-none}
+
+-- what lookup shows at level 0 and at the levels of the fixed decisions it shows so ever after
+module _ (book : List ℕ) where
+  -- how many are fixed does not fall over a call, and so many are then in force
+  still-fixed : (session : List ℕ) → readRefusal book session ≡ 0 → (call : Call)
+      → let after = held (formulaOf book) (callNumbers book session call) in
+      (held (formulaOf book) session .fixed ≤ after .fixed) × (after .fixed ≤ length (decisions (after .trail)))
+  unfolding stepAll
+  still-fixed session e call = (
+    rw (call-holds book session e call)
+        (fixed-never-falls (formulaOf book) (well-formed-sound book (well book session (sym e))) (held (formulaOf book) session) (facts book session (sym e) .0)
+        (call ∷ [])),
+    facts book (callNumbers book session call) (sym (call-passes book session e call)) .0 .fixed-within,
+  )
+
+  kept-positive : (calls : List Call) (session : List ℕ) (v n : ℕ) → n ≤ held (formulaOf book) session .fixed → lookupAnswer book session v ≡ Positive n
+      → lookupAnswer book (playedNumbers book session calls) v ≡ Positive n
+  unfolding playedNumbers
+  kept-positive [] session v n low a = a
+  kept-positive (call ∷ calls) session v n low a =
+      let still = still-fixed session (sym (positive-shown book session v n a .0 .none)) call in
+      kept-positive calls (callNumbers book session call) v n (omega arith) (levels-after book session call .positive-stays v n a (omega arith))
+
+  kept-negative : (calls : List Call) (session : List ℕ) (v n : ℕ) → n ≤ held (formulaOf book) session .fixed → lookupAnswer book session v ≡ Negative n
+      → lookupAnswer book (playedNumbers book session calls) v ≡ Negative n
+  unfolding playedNumbers
+  kept-negative [] session v n low a = a
+  kept-negative (call ∷ calls) session v n low a =
+      let still = still-fixed session (sym (negative-shown book session v n a .0 .none)) call in
+      kept-negative calls (callNumbers book session call) v n (omega arith) (levels-after book session call .negative-stays v n a (omega arith))
 
 module _ (book session : List ℕ) (e : readRefusal book session ≡ 0) where
   abbrev formula : Formula
@@ -65,17 +95,6 @@ module _ (book session : List ℕ) (e : readRefusal book session ≡ 0) where
     later-told : fixedAnswer book later ≡ Of (held formula later .fixed)
     later-told = rw (later-held, later-is) (fixed-after book session ok reached reached-valid)
 
-    -- a decision that was fixed is true, and its variable one of the book's
-    still-true : (l : ℕ) → member l (oldestDecisions (run .fixed) run) ≡ true → isTrue (held formula later .trail) l ≡ true
-    still-true l m =
-        let fixed-still : member l (oldestDecisions (run .fixed) reached) ≡ true = rw (fixed-stay formula (well-formed-sound book ok) run valid calls) m in
-        rw later-held
-        (decisions-true (reached .trail) l
-        (member-behind l (decisions (reached .trail)) (length (decisions (reached .trail)) - run .fixed) fixed-still))
-
-    still-within : (l : ℕ) → member l (oldestDecisions (run .fixed) run) ≡ true → literalWithin (formula .variables) l ≡ true
-    still-within l m = facts book later (sym later-passes) .0 .trail-within l (still-true l m)
-
   -- Whatever is called, the fixed decisions stay.
   pub fixed-decisions-stay : (calls : List Call) → FixedStay book session calls
   unfolding playedNumbers stepAll
@@ -84,12 +103,18 @@ module _ (book session : List ℕ) (e : readRefusal book session ≡ 0) where
         told = (later-told [], later-told calls);
         never-falls = rw (later-held calls) (fixed-never-falls formula (well-formed-sound book ok) run valid calls);
         same = rw (later-held calls) (fixed-stay formula (well-formed-sound book ok) run valid calls);
+        positive-kept = λ v n low a. kept-positive book calls session v n low a;
+        negative-kept = λ v n low a. kept-negative book calls session v n low a;
         shown-positive = λ v m.
-            let bounds = literal-parts (variablesOf book) (positive v) (still-within calls (positive v) m) in
-            shows-positive book (later calls) (later-passes calls) v (omega arith) (omega arith) .1 (still-true calls (positive v) m);
+            let old = oldest-low (run .fixed) run (valid .trail-distinct) (positive v) m in
+            let bounds = true-within book session (sym e) (positive v) (old .0) in
+            kept-positive book calls session v (level (run .trail) (positive v)) (old .1)
+            (shows-positive book session (sym e) v (omega arith) (omega arith) (level (run .trail) (positive v)) .1 (old .0, refl));
         shown-negative = λ v m.
-            let bounds = literal-parts (variablesOf book) (negative v) (still-within calls (negative v) m) in
-            shows-negative book (later calls) (later-passes calls) v (omega arith) (omega arith) .1 (still-true calls (negative v) m);
+            let old = oldest-low (run .fixed) run (valid .trail-distinct) (negative v) m in
+            let bounds = true-within book session (sym e) (negative v) (old .0) in
+            kept-negative book calls session v (level (run .trail) (negative v)) (old .1)
+            (shows-negative book session (sym e) v (omega arith) (omega arith) (level (run .trail) (negative v)) .1 (old .0, refl));
       }
 
   -- Where calls lead the session from out of conflict into one, a backtrack of 1 is accepted, or refused by 17 where no backtrack is left.

@@ -3,8 +3,10 @@ pub mod CallLaws
 pub mod OpenLaws
 pub mod PassedLaws
 pub mod AnswerLaws
+pub mod LookupLaws
 pub mod ReportLaws
 pub mod Statements
+pub mod ShownLevels
 pub mod TextLaws
 pub mod FixedDecisions
 pub mod ReplayLaws

@@ -1,9 +1,10 @@
 -- A session that passes: 11 and 12 come first, and what is read in its numbers is what the run that it holds has.
-use Rattle.layout.specs.Layout.{Fits, TrailFits, SessionFits, lengthAt, decisionsAt, conflictAt, backtracksAt, fixedAt, trailAt, requiredLength, checksAt, held, valueSlot}
+use Rattle.layout.specs.Layout.{Fits, TrailFits, SessionFits, lengthAt, decisionsAt, conflictAt, backtracksAt, fixedAt, trailAt, requiredLength, checksAt, held, valueSlot, levelBefore}
 use Rattle.book.specs.Formula.{maxVariables, maxClauses, variableOf}
 use Rattle.layout.proofs.FitsLaws.{held-fits, session-fits, session-trail-fits}
 use Rattle.layout.proofs.ValueLaws.{held-value}
-use Prim.Native.Nat.{ℕ, suc, _+_, _-_, _≤_}
+use Rattle.layout.proofs.TrailLaws.{place-read, place-read-none, level-read}
+use Prim.Native.Nat.{ℕ, suc, _+_, _-_, _/_, _%_, _≤_}
 use mathlib.Core.Path.{_≡_, refl, ap, sym, _∙_}
 use mathlib.Core.Bool.{Bool, true, false, cond}
 use mathlib.Core.List.{List, []}
@@ -14,7 +15,7 @@ use Rattle.base.specs.Lists.{table, sum, copied}
 use Rattle.book.specs.Numbers.{wellFormed, formulaOf, variablesOf, clausesOf}
 use Rattle.book.proofs.PartLaws.{clauses-counted}
 use Rattle.book.proofs.WellFormedLaws.{well-formed-sound, well-formed-limited}
-use Rattle.run.specs.Trail.{literalAt, decisions}
+use Rattle.run.specs.Trail.{place, literalAt, isTrue, decisions, level}
 use Rattle.run.specs.Run.{Run, trailBehind}
 use Rattle.run.specs.Calls.{decideRefusal, backtrackRefusal}
 use Rattle.run.specs.Valid.{Valid}
@@ -26,7 +27,11 @@ use Rattle.layout.specs.Encodes.{Encodes}
 use Rattle.layout.specs.Values.{valueRead, valueIn}
 use Rattle.engine.specs.Engine.{Holding}
 use Rattle.layout.specs.declared.values.Value.{Value}
+use mathlib.Core.Logic.{⊎-elim}
+use Rattle.base.proofs.Bools.{alike}
 use Rattle.base.proofs.Lists.{part-taken}
+use Rattle.book.proofs.SoundLaws.{literal-parts}
+use Rattle.run.proofs.Trails.{true-place, place-within}
 use Rattle.base.proofs.Tables.{getD-table, length-table}
 use Rattle.validation.proofs.PassLaws.{passes-encodes}
 use Rattle.session.specs.declared.Shown.the-variants as shown
@@ -109,6 +114,33 @@ module _ (book session : List ℕ) where
         → r ≡ valueIn (held (formulaOf book) session .trail) l
     value-answers x l r e low h q =
         q ∙ rw e (held-value (variablesOf book) session (held (formulaOf book) session .trail) (facts .1 .trail) (facts .0 .trail-distinct) l low (omega arith))
+
+    -- the value of a true literal's variable is read, and its half is the literal's place, where its level stands
+    module _ (l : ℕ) (t : isTrue (held (formulaOf book) session .trail) l ≡ true) where
+      pub true-within : (2 ≤ l) × (variableOf l ≤ variablesOf book)
+      true-within = let parts = literal-parts (variablesOf book) l (facts .0 .trail-within l t) in (parts .0, omega arith)
+
+      half-is : getD session (valueSlot (variablesOf book) l) 0 / 2 ≡ place (held (formulaOf book) session .trail) l
+      half-is =
+          let trail = held (formulaOf book) session .trail in
+          let within = facts .0 .trail-within l t in
+          ⊎-elim (λ same. place-read (variablesOf book) session trail (facts .1 .trail) (facts .0 .trail-distinct) l (variableOf l) refl within same)
+          (λ other.
+          absurd (omega (arith, true-place trail l t, place-read-none (variablesOf book) session trail (facts .1 .trail) (facts .0 .trail-distinct) l (variableOf l) refl within other)))
+          (alike (getD session (valueSlot (variablesOf book) l) 0 % 2) (l % 2))
+
+      pub half-within : getD session (valueSlot (variablesOf book) l) 0 / 2 ≤ variablesOf book
+      half-within =
+          omega (arith, half-is, place-within (held (formulaOf book) session .trail) l, trail-short (valid-structure (facts .0) .trailed))
+
+      pub level-is : levelBefore (variablesOf book) session (getD session (valueSlot (variablesOf book) l) 0 / 2) ≡ level (held (formulaOf book) session .trail) l
+      unfolding levelBefore
+      level-is =
+          let trail = held (formulaOf book) session .trail in
+          let on = true-place trail l t in
+          let behind-one : place trail l ≡ suc (place trail l - 1) = omega arith in
+          ap (levelBefore (variablesOf book) session) (half-is ∙ behind-one)
+          ∙ level-read (variablesOf book) session trail (facts .1 .trail) (facts .0 .trail-distinct) l on (trail-short (valid-structure (facts .0) .trailed))
 
     -- the header's numbers
     pub conflict-is : getD session conflictAt 0 ≡ held (formulaOf book) session .conflict

@@ -1,20 +1,16 @@
 -- Statements 2 and 3 of the service description, proved of the outcomes that the contracts cite.
 use Prim.Native.Nat.{ℕ, suc, _≤_, _<_}
 use mathlib.Core.Path.{_≡_, refl, ap, sym, _∙_}
-use mathlib.Core.Bool.{Bool, true, false, cond, _&&_, _||_}
-use mathlib.Core.Logic.{_↔_}
+use mathlib.Core.Bool.{Bool, true, false, cond}
 use mathlib.Core.List.{List, [], _∷_}
 use native.Mathlib.Omega.{arith}
-use borrow.Author.Tests.{le-leb}
-use lib.Dec.{leb}
 use lib.ListN.{length}
 use Rattle.base.proofs.Bools.{never}
 use Rattle.base.specs.Lists.{member, sum}
 use Rattle.book.specs.Formula.{positive, negative}
 use Rattle.book.specs.Numbers.{wellFormed, formulaOf, variablesOf, clausesOf}
 use Rattle.book.proofs.WellFormedLaws.{well-formed-sound}
-use Rattle.run.specs.Trail.{Entry, place, isTrue, isAssigned, isMet}
-use Rattle.run.proofs.Trails.{true-place, place-untrue, consistent}
+use Rattle.run.specs.Trail.{level, isMet}
 use Rattle.run.specs.Run.{Run, clauseOf, size, noCell, cellOf, listOf, openRun, decide, backtrack}
 use Rattle.run.specs.Calls.{Call, backtrackBy, backtrackRefusal, refusal, performCall, step, stepAll, reference}
 use Rattle.run.specs.Ceiling.{checksOf}
@@ -22,65 +18,21 @@ use Rattle.run.specs.Valid.{Valid}
 use Rattle.run.proofs.Theorems.{open-valid, decide-valid, backtrack-valid, step-valid, reference-valid, assigned-is-closure, conflict-is-both-ways, conflict-clause-false, always-met-idle, always-met-never-named, backtrack-keeps, nothing-open-all-met}
 use Rattle.run.proofs.Ceiling.{ceiling-in-period, ceiling-in-all, checks-by-period, counts-never-saturate, unscanned-cost-nothing, unscanned-count}
 use Rattle.layout.specs.Layout.{requiredLength, maxSession, held}
-use Rattle.session.specs.Outcomes.{outcome, countOf, overwritten, requiredAnswer, totalAnswer, fixedAnswer, openAnswer, openNumbers, openRefusal, sessionDecideRefusal, decideAnswer, decideNumbers, backtrackNumbers, lookupRefusal, lookupAnswer, callNumbers, replayNumbers}
+use Rattle.session.specs.Outcomes.{outcome, countOf, overwritten, requiredAnswer, totalAnswer, fixedAnswer, openAnswer, openNumbers, openRefusal, sessionDecideRefusal, decideAnswer, decideNumbers, backtrackNumbers, lookupAnswer, callNumbers, replayNumbers}
 use Rattle.validation.specs.Validation.{readRefusal}
 use Rattle.session.specs.Statement.{Statement2, OpenReported, DecideReported, Replayed}
 use Rattle.session.specs.declared.Sum.the-variants.{Checks}
-use Rattle.session.specs.declared.Assigned.the-variants.{Open, Positive, Negative}
+use Rattle.session.specs.declared.Assigned.the-variants.{Open}
 use Rattle.session.specs.declared.Count.the-variants.{Of}
-use Rattle.run.proofs.Opposites.{opposite-positive}
 use Rattle.layout.proofs.FitsLaws.{required-most}
 use Rattle.layout.proofs.EncodeLaws.{encodes-whole}
 use Rattle.session.proofs.CallLaws.{held-overwritten, passes-overwritten, call-refusal, call-numbers, open-accepted, replayed}
 use Rattle.session.proofs.OpenLaws.{open-none}
-use Rattle.session.proofs.PassedLaws.{well, facts, own-refusal}
+use Rattle.session.proofs.PassedLaws.{well, facts, true-within}
 use Rattle.session.proofs.AnswerLaws.{decide-none, decide-own}
 use Rattle.session.proofs.ReportLaws.{open-run-reported, decide-run-reported}
-
--- what lookup answers, by the two literals of the variable
-module _ (book session : List ℕ) (e : readRefusal book session ≡ 0) (v : ℕ) (low : 1 ≤ v) (high : v ≤ variablesOf book) where
-  abbrev trail : List Entry
-  trail = held (formulaOf book) session .trail
-
-  lookup-by : (t f : Bool) → isTrue trail (positive v) ≡ t → isTrue trail (negative v) ≡ f
-      → lookupAnswer book session v ≡ cond t Positive (cond f Negative Open)
-  unfolding lookupAnswer lookupRefusal
-  lookup-by t f p q =
-      rw (own-refusal book session (sym e) (λ (run : Run). cond (leb 1 v && leb v (variablesOf book)) 0 13), le-leb 1 v low, le-leb v (variablesOf book) high, p, q)
-
-  not-both : isTrue trail (positive v) ≡ true → isTrue trail (negative v) ≡ true → ⊥
-  not-both t f =
-      let once = facts book session (sym e) .0 .trail-distinct in
-      let none = consistent trail (positive v) once (true-place trail (positive v) t) in
-      never f (place-untrue trail (negative v) (ap (place trail) (sym (opposite-positive v)) ∙ none))
-
-  pub shows-positive : (lookupAnswer book session v ≡ Positive) ↔ (isTrue trail (positive v) ≡ true)
-  shows-positive = (λ a. go (isTrue trail (positive v)) (isTrue trail (negative v)) refl refl a, λ t. lookup-by true (isTrue trail (negative v)) t refl)
-    where
-      go : (t f : Bool) → isTrue trail (positive v) ≡ t → isTrue trail (negative v) ≡ f → lookupAnswer book session v ≡ Positive → t ≡ true
-      go true f p q a = refl
-      go false true p q a = let w : Negative ≡ Positive = sym (lookup-by false true p q) ∙ a in let z : _≡_ {A = ℕ} 0 1 = cc in absurd (omega arith)
-      go false false p q a = let w : Open ≡ Positive = sym (lookup-by false false p q) ∙ a in let z : _≡_ {A = ℕ} 0 1 = cc in absurd (omega arith)
-
-  pub shows-negative : (lookupAnswer book session v ≡ Negative) ↔ (isTrue trail (negative v) ≡ true)
-  shows-negative = (λ a. go (isTrue trail (positive v)) (isTrue trail (negative v)) refl refl a, λ f. back (isTrue trail (positive v)) refl f)
-    where
-      go : (t f : Bool) → isTrue trail (positive v) ≡ t → isTrue trail (negative v) ≡ f → lookupAnswer book session v ≡ Negative → f ≡ true
-      go true f p q a = let w : Positive ≡ Negative = sym (lookup-by true f p q) ∙ a in let z : _≡_ {A = ℕ} 0 1 = cc in absurd (omega arith)
-      go false true p q a = refl
-      go false false p q a = let w : Open ≡ Negative = sym (lookup-by false false p q) ∙ a in let z : _≡_ {A = ℕ} 0 1 = cc in absurd (omega arith)
-
-      back : (t : Bool) → isTrue trail (positive v) ≡ t → isTrue trail (negative v) ≡ true → lookupAnswer book session v ≡ Negative
-      back true p f = absurd (not-both p f)
-      back false p f = lookup-by false true p f
-
-  shown-assigned : (lookupAnswer book session v ≡ Open → ⊥) → isAssigned trail (positive v) ≡ true
-  shown-assigned n = rw (opposite-positive v) (go (isTrue trail (positive v)) (isTrue trail (negative v)) refl refl)
-    where
-      go : (t f : Bool) → isTrue trail (positive v) ≡ t → isTrue trail (negative v) ≡ f → (t || f) ≡ true
-      go true f p q = refl
-      go false true p q = refl
-      go false false p q = absurd (n (lookup-by false false p q))
+use Rattle.session.proofs.LookupLaws.{shows-positive, shows-negative, positive-shown, negative-shown, shown-assigned}
+use Rattle.run.proofs.Since.{level-since, since-level}
 
 pub statement-2 : (book session : List ℕ) → readRefusal book session ≡ 0 → Statement2 book session
 statement-2 book session e =
@@ -92,13 +44,27 @@ statement-2 book session e =
       both-ways = conflict-is-both-ways (formulaOf book) run s valid;
       conflict-clause = conflict-clause-false (formulaOf book) run valid;
       shown-positive = λ quiet v low high.
-          let shows = shows-positive book session e v low high in
+          let shows = shows-positive book session (sym e) v low high in
           let closed = assigned-is-closure (formulaOf book) run s valid quiet (positive v) in
-          (λ a. closed .0 (shows .0 a), λ k. shows .1 (closed .1 k));
+          (λ a. closed .0 (shows (a .0) .0 (a .1) .0), λ k. (level (run .trail) (positive v), shows _ .1 (closed .1 k, refl)));
       shown-negative = λ quiet v low high.
-          let shows = shows-negative book session e v low high in
+          let shows = shows-negative book session (sym e) v low high in
           let closed = assigned-is-closure (formulaOf book) run s valid quiet (negative v) in
-          (λ a. closed .0 (shows .0 a), λ k. shows .1 (closed .1 k));
+          (λ a. closed .0 (shows (a .0) .0 (a .1) .0), λ k. (level (run .trail) (negative v), shows _ .1 (closed .1 k, refl)));
+      since-positive = λ v n a.
+          let shown = positive-shown book session v n a .1 in
+          rw (shown .1) at (level-since (formulaOf book) s run valid (positive v) (shown .0));
+      since-negative = λ v n a.
+          let shown = negative-shown book session v n a .1 in
+          rw (shown .1) at (level-since (formulaOf book) s run valid (negative v) (shown .0));
+      at-level-positive = λ v n known since.
+          let shown = since-level (formulaOf book) s run valid (positive v) n known since in
+          let bounds = true-within book session (sym e) (positive v) (shown .0) in
+          shows-positive book session (sym e) v (omega arith) (omega arith) n .1 shown;
+      at-level-negative = λ v n known since.
+          let shown = since-level (formulaOf book) s run valid (negative v) n known since in
+          let bounds = true-within book session (sym e) (negative v) (shown .0) in
+          shows-negative book session (sym e) v (omega arith) (omega arith) n .1 shown;
     }
 
 -- A clause of no literals, which is always met, watches nothing, stands in no list and is never named: a lent session that has it otherwise fails.
@@ -142,6 +108,9 @@ module _ (book session : List ℕ) (e : readRefusal book session ≡ 0) where
   next-valid : (call : Call) → Valid (formulaOf book) (step (formulaOf book) run call)
   next-valid call = step-valid (formulaOf book) run (well-formed-sound book ok) call valid
 
+  pub call-holds : (call : Call) → held (formulaOf book) (callNumbers book session call) ≡ step (formulaOf book) run call
+  call-holds call = ap (held (formulaOf book)) (next-numbers call) ∙ held-overwritten book session ok (step (formulaOf book) run call) (next-valid call)
+
   pub call-passes : (call : Call) → readRefusal book (callNumbers book session call) ≡ 0
   unfolding readRefusal
   call-passes call = rw (next-numbers call) (call-refusal book session ok (step (formulaOf book) run call) (next-valid call) (λ (r : Run). 0))
@@ -151,7 +120,7 @@ module _ (book session : List ℕ) (e : readRefusal book session ≡ 0) where
       → checksOf (held (formulaOf book) (callNumbers book session call)) c ≡ checksOf run c
   unfolding stepAll
   call-unscanned call c few =
-      ap (λ (r : Run). checksOf r c) (ap (held (formulaOf book)) (next-numbers call) ∙ held-overwritten book session ok (step (formulaOf book) run call) (next-valid call))
+      ap (λ (r : Run). checksOf r c) (call-holds call)
       ∙ unscanned-count (formulaOf book) (well-formed-sound book ok) run valid (call ∷ []) c few
 
 total-after : (book buffer : List ℕ) → wellFormed book ≡ true → (run : Run) → Valid (formulaOf book) run
@@ -204,7 +173,7 @@ pub nothing-open-met : (book session : List ℕ) → readRefusal book session �
     → (c : ℕ) → c < length (formulaOf book .clauses) → isMet (held (formulaOf book) session .trail) (clauseOf (formulaOf book) c) ≡ true
 nothing-open-met book session e quiet none-open =
     nothing-open-all-met (formulaOf book) (held (formulaOf book) session) (well-formed-sound book (well book session (sym e))) (facts book session (sym e) .0) quiet
-    (λ x low high. shown-assigned book session e x low high (none-open x low high))
+    (λ x low high. shown-assigned book session (sym e) x low high (none-open x low high))
 
 -- The required length is at most `maxSession`, and the paper allows 14,000; so many numbers suffice for every book.
 pub required-within : (book : List ℕ) (n : ℕ) → requiredAnswer book ≡ Of n → (n ≤ maxSession) × (maxSession ≤ 14000)

@@ -7,7 +7,7 @@ use lib.ListN.{length, drop}
 use Rattle.base.specs.Lists.{sum, copied}
 use Rattle.book.specs.Formula.{Formula, positive, negative}
 use Rattle.book.specs.Numbers.{variablesOf, clausesOf, wellFormed, formulaOf}
-use Rattle.run.specs.Trail.{isTrue, decisions}
+use Rattle.run.specs.Trail.{isTrue, decisions, level}
 use Rattle.run.specs.Run.{Run, inConflict, openRun, decide, backtrack, fix}
 use Rattle.run.specs.Calls.{Call, decision, backtrackBy, fixBy, decideRefusal, backtrackRefusal, fixRefusal, reference}
 use Rattle.layout.specs.Layout.{requiredLength, encode, held}
@@ -49,11 +49,13 @@ backOf (refused number) = back.Refused number
 backOf (accepted run) = back.Done
 
 -- Lookup: the refusal number; positive (the paper's wanted) where the variable's positive literal is true, negative (barred) where the
--- negative one is, else open.
+-- negative one is, each with that literal's level; else open.
 abbrev pub assignedOf : ℕ → Outcome Run → Assigned
 assignedOf v (refused number) = assigned.Refused number
 assignedOf v (accepted run) =
-    cond (isTrue (run .trail) (positive v)) assigned.Positive (cond (isTrue (run .trail) (negative v)) assigned.Negative assigned.Open)
+    cond (isTrue (run .trail) (positive v))
+    (assigned.Positive (level (run .trail) (positive v)))
+    (cond (isTrue (run .trail) (negative v)) (assigned.Negative (level (run .trail) (negative v))) assigned.Open)
 
 -- The total: the refusal number, or the sum of all counts of checks.
 abbrev pub sumOf : Outcome Run → Sum

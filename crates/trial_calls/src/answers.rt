@@ -67,24 +67,25 @@ pub(crate) fn done(word: u32, number: u32, answer: Back) -> u32 {
     }
 }
 
-// The word for a value.
-fn value(answer: Assigned) -> u32 {
-    match answer {
-        Assigned::Open => messages::OPEN,
-        Assigned::Positive => messages::POSITIVE,
-        Assigned::Negative => messages::NEGATIVE,
-        Assigned::Refused(refusal) => refused(refusal),
-    }
+// A variable that is assigned, by the word for its value, and its level.
+fn at_level(variable: u32, word: u32, level: u32) -> u32 {
+    say(messages::VARIABLE, variable);
+    say(word, level);
+    0
 }
 
+// What a lookup answers; only an assigned variable has a level.
 pub(crate) fn assigned(variable: u32, answer: Assigned) -> u32 {
-    let word = value(answer);
-    if word == WAS_REFUSED {
-        return word;
+    match answer {
+        Assigned::Open => {
+            say(messages::VARIABLE, variable);
+            messages::print(messages::OPEN);
+            0
+        }
+        Assigned::Positive(level) => at_level(variable, messages::POSITIVE, level),
+        Assigned::Negative(level) => at_level(variable, messages::NEGATIVE, level),
+        Assigned::Refused(refusal) => refused(refusal),
     }
-    say(messages::VARIABLE, variable);
-    messages::print(word);
-    0
 }
 
 pub(crate) fn sum(answer: Sum) -> u32 {

@@ -91,7 +91,8 @@ pub fn print(word: u32) {
     print_part(
         b"\n|: | / |, too long|, no such name|, no such place|, lent numbers changed|, out of form|, lent numbers untouched|\
         , the rest untouched|, numbers|refused |V | C | L |well formed|open|choose | forced |:| rule |back |\
-        fixed |feature | open| wanted| barred|checks |choices | backs | trail |choices fixed |need |rules |literals | |-",
+        fixed |feature | open| wanted at level | barred at level |checks |choices | backs | trail |choices fixed |need |\
+        rules |literals | |-",
         word,
     );
 }

@@ -10,11 +10,12 @@ use borrow.Author.Tests.{eqb-true, ne-eqb}
 use lib.Dec.{eqb}
 use lib.ListN.{length, getD}
 use Rattle.book.specs.Formula.{variableOf}
-use Rattle.run.specs.Trail.{Entry, opposite, isTrue, isFalse}
+use Rattle.run.specs.Trail.{Entry, opposite, isFalse}
 use Rattle.run.specs.Scan.{Cell, Scanned, next, watched, oneMore, scanFrom, scan}
 use Rattle.run.proofs.Opposites.{opposite-cases, opposite-variable}
 use Rattle.run.proofs.Circle.{next-within}
 use Rattle.layout.specs.Values.{valueRead, valueIn, Reads}
+use Rattle.layout.proofs.ValueLaws.{value-true, value-false, value-open}
 use Rattle.engine.specs.Inner.Scan.{ScanReady, ValueSays}
 use Rattle.layout.specs.declared.values.Value.{Value}
 use Rattle.layout.specs.declared.values.Value.the-variants.{Open, True, False}
@@ -23,41 +24,8 @@ use Rattle.layout.specs.declared.values.Value.the-variants.{Open, True, False}
 open-true : Open ≡ True → ⊥
 open-true e = let z : _≡_ {A = ℕ} 0 1 = cc in omega arith
 
-open-false : Open ≡ False → ⊥
-open-false e = let z : _≡_ {A = ℕ} 0 1 = cc in omega arith
-
 true-false : True ≡ False → ⊥
 true-false e = let z : _≡_ {A = ℕ} 0 1 = cc in omega arith
-
-says-false : (trail : List Entry) (l : ℕ) → valueIn trail l ≡ False → (isTrue trail l ≡ false) × (isFalse trail l ≡ true)
-unfolding valueIn
-says-false trail l e = go (isTrue trail l) refl (isFalse trail l) refl e
-  where
-    go : (a : Bool) → isTrue trail l ≡ a → (b : Bool) → isFalse trail l ≡ b → cond a True (cond b False Open) ≡ False
-        → (isTrue trail l ≡ false) × (isFalse trail l ≡ true)
-    go true p b q f = absurd (true-false f)
-    go false p true q f = (p, q)
-    go false p false q f = absurd (open-false f)
-
-says-open : (trail : List Entry) (l : ℕ) → valueIn trail l ≡ Open → (isTrue trail l ≡ false) × (isFalse trail l ≡ false)
-unfolding valueIn
-says-open trail l e = go (isTrue trail l) refl (isFalse trail l) refl e
-  where
-    go : (a : Bool) → isTrue trail l ≡ a → (b : Bool) → isFalse trail l ≡ b → cond a True (cond b False Open) ≡ Open
-        → (isTrue trail l ≡ false) × (isFalse trail l ≡ false)
-    go true p b q f = absurd (open-true (sym f))
-    go false p true q f = absurd (open-false (sym f))
-    go false p false q f = (p, q)
-
-says-true : (trail : List Entry) (l : ℕ) → valueIn trail l ≡ True → isTrue trail l ≡ true
-unfolding valueIn
-says-true trail l e = go (isTrue trail l) refl (isFalse trail l) refl e
-  where
-    go : (a : Bool) → isTrue trail l ≡ a → (b : Bool) → isFalse trail l ≡ b → cond a True (cond b False Open) ≡ True
-        → isTrue trail l ≡ true
-    go true p b q f = p
-    go false p true q f = absurd (true-false (sym f))
-    go false p false q f = absurd (open-true f)
 
 -- where the entry says true, it says false of the opposite
 read-opposite : (entry l m : ℕ) → (l % 2 ≡ m % 2 → ⊥) → valueRead entry l ≡ True → valueRead entry m ≡ False
@@ -73,9 +41,9 @@ read-opposite entry l m other e = go (eqb entry 0) refl (eqb (entry % 2) (l % 2)
 
 pub reads-says : (values : List ℕ) (trail : List Entry) (l : ℕ) → Reads values trail → 2 ≤ l → variableOf l ≤ length values → (r : Value)
     → r ≡ valueRead (getD values (variableOf l - 1) 0) l → ValueSays trail l r
-reads-says values trail l reads low within Open e = says-open trail l (sym (e ∙ reads l low within))
-reads-says values trail l reads low within False e = says-false trail l (sym (e ∙ reads l low within))
-reads-says values trail l reads low within True e = (says-true trail l (sym (e ∙ reads l low within)), says-false trail (opposite l) there .0)
+reads-says values trail l reads low within Open e = value-open trail l (sym (e ∙ reads l low within))
+reads-says values trail l reads low within False e = value-false trail l (sym (e ∙ reads l low within))
+reads-says values trail l reads low within True e = (value-true trail l (sym (e ∙ reads l low within)), value-false trail (opposite l) there .0)
   where
     other : l % 2 ≡ opposite l % 2 → ⊥
     other s = ⊎-elim (λ p. omega arith) (λ p. omega arith) (opposite-cases l)
