@@ -1,5 +1,6 @@
 #!/usr/bin/env bash
-# Exact counts: every line of `desk`, and every number of a session after every call, is that of a second run. --selftest: only wrong programs are tried.
+# Exact counts: every line of `desk`, every number of a session after every call, and what is looked up, with its level, are those of a second run.
+# --selftest: only wrong programs are tried.
 set -euo pipefail
 cd "$(dirname "$0")/.."
 . tests/support/common.sh

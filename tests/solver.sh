@@ -5,19 +5,6 @@ set -euo pipefail
 cd "$(dirname "$0")/.."
 . tests/support/common.sh
 
-install_cadical() {
-    apt-get install -y -q libcadical-dev || (apt-get update -q && apt-get install -y -q libcadical-dev)
-}
-
-# What apt-get prints is shown where it fails.
-need_cadical() {
-    [ -e /usr/include/cadical.hpp ] && return
-    echo "solver: installing Debian's libcadical-dev"
-    quiet install_cadical && [ -e /usr/include/cadical.hpp ] && return
-    echo "$0: /usr/include/cadical.hpp is missing and cannot be installed; as root: apt-get install libcadical-dev" >&2
-    exit 1
-}
-
 need_program
 need_cadical
 build solver -lcadical

@@ -24,6 +24,17 @@ static void say(const char *call, uint64_t answer) {
     }
 }
 
+/* Says a lookup, and how the feature is settled; a refused one does not tell it. */
+static void say_lookup(const char *call, uint64_t answer) {
+    say(call, answer);
+    switch (tariff_state(answer)) {
+    case TARIFF_IS_OPEN: printf("it is open\n"); break;
+    case TARIFF_IS_WANTED: printf("it is wanted, at level %u\n", tariff_level(answer)); break;
+    case TARIFF_IS_BARRED: printf("it is barred, at level %u\n", tariff_level(answer)); break;
+    case TARIFF_IS_REFUSED: printf("it is not told\n"); break;
+    }
+}
+
 static void read_tariff(const char *path) {
     FILE *file = fopen(path, "rb");
     if (!file) fail("no such tariff");
@@ -73,9 +84,9 @@ int main(int count, char **words) {
     say("fix 1", tariff_fix(book, TARIFF_BOOK, session, needed, 1));
     put_away(words[2], needed);
     memset(session, 255, sizeof session);
-    say("lookup 1 in other numbers", tariff_lookup(book, TARIFF_BOOK, session, needed, 1));
+    say_lookup("lookup 1 in other numbers", tariff_lookup(book, TARIFF_BOOK, session, needed, 1));
     size_t length = take_up(words[2]);
-    say("lookup 1 in the numbers taken up", tariff_lookup(book, TARIFF_BOOK, session, length, 1));
+    say_lookup("lookup 1 in the numbers taken up", tariff_lookup(book, TARIFF_BOOK, session, length, 1));
     say("fixed in the numbers taken up", tariff_fixed(book, TARIFF_BOOK, session, length));
     say("choose -2", tariff_decide(book, TARIFF_BOOK, session, length, tariff_barred(2)));
     say_figures(length);

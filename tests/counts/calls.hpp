@@ -10,12 +10,15 @@
 #include "judge.hpp"
 #include "kept.hpp"
 #include "lent.hpp"
+#include "work.hpp"
 
 // How a session is looked at: a wrong view changes what is seen.
 using View = std::function<void(Seen&)>;
 
-inline void compare_seen(const Run& run, const Library& library, const View& view) {
+inline void compare_seen(const Run& run, const Library& library, const View& view, Work& work) {
     Seen seen = library.look();
+    work.calls++;
+    work.numbers += seen.numbers.size();
     view(seen);
     size_t needed = compare_numbers(seen.numbers, session_parts(run), library.lent_session().before);
     compare_number(library.required_length(), needed, "required length", 0);
@@ -41,39 +44,45 @@ inline void compare_always_met(const Run& run, const Library& library) {
 }
 
 // An opening, whatever the session was before.
-inline void compare_opening(Run& run, Library& library, const View& view) {
+inline void compare_opening(Run& run, Library& library, const View& view, Work& work, Looks& looks) {
     compare_number(library.open(), c_answer(run.open()), "answer to the opening", 0);
-    compare_seen(run, library, view);
+    compare_seen(run, library, view, work);
+    looks.open();
+    looks.look(run, library, Looks::OFTEN);
 }
 
-// One call: the answer, what is seen, and what must stay by the text alone.
-inline void compare_call(Run& run, Library& library, const Call& call, const View& view) {
+// One call: the answer, what is seen and looked up, and what must stay by the text alone.
+inline void compare_call(Run& run, Library& library, const Call& call, const View& view, Work& work, Looks& looks) {
+    work.fixings.add(run, call);
     Numbers before = library.lent_session().numbers;
     uint64_t answer = library.take(call);
     compare_number(answer, answer_call(run, call), "answer to number", call.number);
-    compare_seen(run, library, view);
+    compare_seen(run, library, view, work);
     check_kept(call, answer, before, library.lent_session().numbers, static_cast<size_t>(run.formula.variables));
+    looks.take(call, answer);
+    looks.look(run, library, Looks::SELDOM);
 }
 
 // The opening and each call by the library, beside the run; at the end the book, damaged sessions, and another opening. Sessions that are
 // lent with other numbers are made of the first one in a conflict, or else of the last one.
-inline void compare_calls(Random& random, Run& run, Library& library, const std::vector<Call>& calls, const View& view, const Told& told) {
+inline void compare_calls(Random& random, Run& run, Library& library, const std::vector<Call>& calls, const View& view, Work& work) {
     size_t i = 0;
     bool lent = false;
+    Looks looks(random, library, work.lookups);
     try {
-        compare_opening(run, library, view);
+        compare_opening(run, library, view, work, looks);
         for (const Call& call : calls) {
             i++;
-            told(run, call);
-            compare_call(run, library, call, view);
+            compare_call(run, library, call, view, work, looks);
             if (lent || run.conflict == 0) continue;
-            compare_lent(random, run, library, told);
+            compare_lent(random, run, library, looks, work);
             lent = true;
         }
-        if (!lent) compare_lent(random, run, library, told);
+        if (!lent) compare_lent(random, run, library, looks, work);
+        looks.look(run, library, Looks::OFTEN);
         compare_numbers(library.lent_book().numbers, book_parts(run.formula), library.lent_book().before);
         compare_always_met(run, library);
-        compare_opening(run, library, view);
+        compare_opening(run, library, view, work, looks);
     } catch (const Disagreement& disagreement) {
         throw Disagreement("call " + std::to_string(i) + " by the library: " + disagreement.what());
     }

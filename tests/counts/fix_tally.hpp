@@ -3,7 +3,7 @@
 #include <cstddef>
 #include <iostream>
 
-#include "library.hpp"
+#include "../support/library.hpp"
 #include "run.hpp"
 
 struct FixTally {

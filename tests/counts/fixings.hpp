@@ -3,8 +3,8 @@
 #include <cstdint>
 #include <vector>
 
+#include "../support/library.hpp"
 #include "../support/random.hpp"
-#include "library.hpp"
 
 class Fixings {
 public:

@@ -7,7 +7,7 @@
 
 #include "../support/answer.hpp"
 #include "../support/command.hpp"
-#include "library.hpp"
+#include "../support/library.hpp"
 #include "numbers.hpp"
 #include "run.hpp"
 

@@ -1,4 +1,5 @@
-// Compares every line of `desk`, and every number of a session after every call by the library, with a second run written from documents 01 and 02.
+// Compares every line of `desk`, and by the library every number of a session after every call and its lookups, with a second run written from
+// documents 01 and 02.
 #include <algorithm>
 #include <cstddef>
 #include <cstdint>
@@ -15,7 +16,6 @@
 #include "../support/shapes.hpp"
 #include "../support/totals.hpp"
 #include "calls.hpp"
-#include "fix_tally.hpp"
 #include "fixings.hpp"
 #include "wrong.hpp"
 
@@ -26,9 +26,11 @@ constexpr int CASES = 4000;
 constexpr int SELF_CHECKS = 120;
 constexpr int ENOUGH = 5;
 
+Formula listing_formula() { return {4, {{1, 2, 3}, {-3, 4}, {-4, -2, 1}}}; }
+
 // The run prints the listing of document 01, and its rules have the checks of the marked points.
 void check_listing() {
-    Formula formula{4, {{1, 2, 3}, {-3, 4}, {-4, -2, 1}}};
+    Formula formula = listing_formula();
     Run run(formula);
     std::vector<std::string> printed = expected_lines(run, "-1\n-2\nb 1\n-3\n1\nb 3\n", [](const Run&, const Answer&) {});
     std::vector<std::string> listing{
@@ -38,6 +40,16 @@ void check_listing() {
     if (printed != listing) throw std::runtime_error("the second run does not print document 01's listing");
     if (run.clauses[0].checks != 3 || run.clauses[1].checks != 0 || run.clauses[2].checks != 1)
         throw std::runtime_error("the second run does not count the checks of document 01's listing");
+}
+
+// After the first two lines of the listing the run looks up what document 01's level is there: 1 barred at 1, 2 barred, 3 and 4 wanted at 2.
+void check_lookups() {
+    Formula formula = listing_formula();
+    Run run(formula);
+    run.open();
+    for (int literal : {-1, -2}) run.decide(literal_number(literal));
+    Lookups answers = lookups_of(run);
+    if (Lookups(answers.begin() + 1, answers.begin() + 5) != Lookups{6, 10, 9, 9}) throw std::runtime_error("the second run counts other levels");
 }
 
 // Clauses are read as K4 says of its examples and of the point `1 1 0`.
@@ -129,22 +141,26 @@ std::vector<std::string> lines_by(const Formula& formula, Fault fault, const std
 }
 
 // The library beside a run, right or wrong, on the book's formula, read rightly or wrongly, and seen so.
-void compare_library(const Generated& made, const Formula& formula, Fault fault, const View& view, const Told& told) {
+void compare_library(const Generated& made, const Formula& formula, Fault fault, const View& view, Work& work) {
     Random random(made.seed);
     Library library(random, *made.example.book);
     Run run(formula, fault);
-    compare_calls(random, run, library, made.calls, view, told);
+    compare_calls(random, run, library, made.calls, view, work);
 }
 
-// A run, right or wrong, by itself: what must stay over each call by the text alone.
+// A run, right or wrong, by itself: what must stay over each call, and what must hold of lookups, by the text alone.
 void check_run(const Generated& made, Fault fault) {
     Run run(made.formula, fault);
     run.open();
     Numbers before = session_numbers(run);
+    Ages ages(static_cast<uint32_t>(made.formula.variables));
+    ages.look(lookups_of(run));
     for (const Call& call : made.calls) {
         uint64_t answer = answer_call(run, call);
         Numbers after = session_numbers(run);
         check_kept(call, answer, before, after, static_cast<size_t>(made.formula.variables));
+        ages.take(call, answer);
+        ages.look(lookups_of(run));
         before = std::move(after);
     }
 }
@@ -171,7 +187,8 @@ struct Noticed {
     void add(const Generated& made, const Wrong& wrong, const std::vector<std::string>& expected) {
         cases++;
         Formula formula = wrong.reading ? wrong.reading(made.written) : made.formula;
-        if (disagrees([&] { compare_library(made, formula, wrong.fault, wrong.view, [](const Run&, const Call&) {}); })) by_numbers++;
+        Work work;
+        if (disagrees([&] { compare_library(made, formula, wrong.fault, wrong.view, work); })) by_numbers++;
         if (wrong.in_script && lines_by(formula, wrong.fault, made.example.script) != expected) by_lines++;
         if (wrong.in_text && disagrees([&] { check_run(made, wrong.fault); })) by_text++;
     }
@@ -201,11 +218,6 @@ void check_wrong(int count) {
     std::cout << std::endl;
 }
 
-struct Work {
-    uint64_t calls = 0, numbers = 0, checks = 0;
-    FixTally fixings;
-};
-
 void run_case(Bench& bench, int number, uint64_t seed, Totals& totals, Work& work) {
     Generated made = generate(number, seed);
     totals.add(made.written);
@@ -216,9 +228,7 @@ void run_case(Bench& bench, int number, uint64_t seed, Totals& totals, Work& wor
         compare_lines(expected, output);
         Random random(seed);
         compare_room(random, made.formula, *made.example.book);
-        auto view = [&](Seen& seen) { work.calls++, work.numbers += seen.numbers.size(); };
-        auto told = [&](const Run& now, const Call& call) { work.fixings.add(now, call); };
-        compare_library(made, made.formula, Fault::NONE, view, told);
+        compare_library(made, made.formula, Fault::NONE, [](Seen&) {}, work);
     });
     work.checks += run.total();
 }
@@ -230,22 +240,30 @@ void compare_million(const Formula& formula) {
     Library library(random, dimacs(formula));
     Run run(formula);
     View plain = [](Seen&) {};
+    Work work;
+    Looks looks(random, library, work.lookups);
     const std::string name = "answer, after take-backs";
     auto take = [&](Call::Kind kind, int number) {
         Call call{kind, static_cast<uint32_t>(number)};
-        compare_number(library.take(call), answer_call(run, call), name, run.backtracks);
+        uint64_t answer = library.take(call);
+        compare_number(answer, answer_call(run, call), name, run.backtracks);
+        looks.take(call, answer);
+    };
+    auto see = [&] {
+        compare_seen(run, library, plain, work);
+        looks.look(run, library, Looks::ALWAYS);
     };
     auto loose = [&] { return static_cast<int>(run.starts.size() - run.fixed); };
-    compare_opening(run, library, plain);
+    compare_opening(run, library, plain, work, looks);
     take(Call::DECIDE, 2);
     take(Call::FIX, 1);
     for (uint64_t i = 0; i <= MAX_BACKTRACKS; i++) {
         for (int decisions = random.between(1, 2); decisions > 0; decisions--) take(Call::DECIDE, random.between(4, 11));
         take(Call::BACKTRACK, loose());
-        if (i % 1000 >= 998 || i == MAX_BACKTRACKS) compare_seen(run, library, plain);
+        if (i % 1000 >= 998 || i == MAX_BACKTRACKS) see();
     }
     take(Call::BACKTRACK, loose() + 1);
-    compare_seen(run, library, plain);
+    see();
     std::cout << "counts: by the library " << run.backtracks << " take-backs and " << run.total() << " checks on one book\n";
 }
 
@@ -265,19 +283,38 @@ void run_longest(Bench& bench) {
     std::cout << "counts: the longest answer has " << expected[1].size() + 1 << " bytes\n";
 }
 
+// The highest level that there is: 500 decisions are in force, every third is negative, and the last one, too.
+void compare_highest(const Formula& formula) {
+    Random random(FIRST_SEED);
+    Library library(random, dimacs(formula));
+    Run run(formula);
+    Work work;
+    Looks looks(random, library, work.lookups);
+    compare_opening(run, library, [](Seen&) {}, work, looks);
+    for (uint32_t variable = 1; variable <= MAX_VARIABLES; variable++)
+        compare_call(run, library, {Call::DECIDE, 2 * variable + (variable % 3 == 2 ? 1 : 0)}, [](Seen&) {}, work, looks);
+    looks.look(run, library, Looks::ALWAYS);
+    std::cout << "counts: the greatest answer to a lookup is " << library.lookup(MAX_VARIABLES) << ", at level " << work.lookups.highest << "\n";
+}
+
+void run_highest(Bench& bench) {
+    Formula formula{MAX_VARIABLES, {}};
+    bench.run(Case{"highest", 0, dimacs(formula), "", 0}, [&](const std::string&) { compare_highest(formula); });
+}
+
 int test(int argc, char** argv) {
     Bench bench(argc, argv, CASES);
     check_listing();
+    check_lookups();
     check_reading();
     check_wrong(std::min(bench.case_count(), SELF_CHECKS));
     Totals totals;
     Work work;
     bench.run_cases("counts", FIRST_SEED, [&](int number, uint64_t seed) { run_case(bench, number, seed, totals, work); });
     run_longest(bench);
+    run_highest(bench);
     if (bench.case_count() == CASES) run_million(bench);
-    std::cout << "counts: " << work.checks << " checks in the last lines; by the library " << work.numbers << " numbers after " << work.calls
-              << " calls\n";
-    work.fixings.print();
+    work.print();
     totals.print("counts", bench.seconds());
     return bench.exit_code();
 }

@@ -7,9 +7,8 @@
 #include <utility>
 #include <vector>
 
+#include "../support/library.hpp"
 #include "run.hpp"
-
-using Numbers = std::vector<uint32_t>;
 
 // The places in the header of a session, and how many there are.
 enum Place { TRAIL_LENGTH, DECISIONS, CONFLICT, BACKTRACKS, FIXED, HEADER };

@@ -15,7 +15,7 @@
 #include "../support/formula.hpp"
 #include "../support/session.hpp"
 
-// One step taken otherwise than document 01, K4 and K7 say.
+// One step taken otherwise than document 01, K4, K5 and K7 say.
 enum class Fault {
     NONE,
     SCANS_FROM_ZERO,     // a scan starts at position 0, not behind the pointer
@@ -40,6 +40,25 @@ enum class Fault {
     FIXES_REFUSED,       // a fixing that is refused fixes
     COUNTS_FIXING,       // a fixing is counted as a backtrack
     PASSES_BEYOND,       // a lent session with more fixed than are in force passes
+    LEVEL_NOW,           // a lookup tells the decisions in force, whatever the level
+    LEVEL_BEFORE,        // of a decision, one level too low
+    LEVEL_BEHIND,        // of an implied literal, one level too high
+    LEVEL_BELOW,         // of all that is assigned after the opening, one level too low
+    LEVEL_AS_PLACE,      // the place on the trail for the level
+    LEVEL_PAST_FIXED,    // the level above the fixed decisions
+    LEVEL_OF_DECISIONS,  // of an implied literal, level 0
+    LEVEL_OF_FALSE,      // of an implied literal, the level of another literal of its clause
+    LEVEL_LEFT_OUT,      // no level
+    LEVEL_NO_CONFLICT,   // no level in a conflict
+    LEVEL_AT_FIRST,      // the level when the variable was first assigned since the opening
+    LEVEL_EVER,          // decisions that were taken back are counted, too
+    LEVEL_RESET,         // after a backtrack, the level that it ended at
+    LEVEL_OF_OPEN,       // an open variable has a level
+    SIGN_TURNED,         // positive and negative are exchanged
+    TOP_OPEN,            // in a conflict the top level is open
+    OPEN_BEYOND,         // numbers above the variables are looked up as open
+    OPEN_AT_ZERO,        // number 0 is looked up as open
+    WRAPS_NUMBERS,       // lookups disregard the highest bit of a number
 };
 
 // A literal as a number: 2 x variable, plus 1 if negative.
@@ -57,7 +76,7 @@ class Run {
 public:
     explicit Run(const Formula& formula, Fault fault = Fault::NONE)
         : formula(formula), fault(fault), clauses(formula.clauses.size()), lists(2 * static_cast<size_t>(formula.variables) + 2),
-          values(formula.variables + 1, 0) {}
+          values(formula.variables + 1, 0), stamps(values.size(), UNSTAMPED) {}
 
     // Whatever was there before.
     Answer open() {
@@ -78,6 +97,7 @@ public:
         if (refusal != 0) return refused(refusal);
         if (fault == Fault::RESTORES_POINTERS) kept.push_back(clauses);
         starts.push_back(trail.size());
+        made++;
         if (fault == Fault::FIXES_DECISIONS) fixed++;
         assign(literal_of(number));
         propagate();
@@ -93,6 +113,8 @@ public:
         conflict = 0;
         backtracks++;
         if (fault == Fault::DROPS_FIXED) fixed = 0;
+        if (fault == Fault::LEVEL_RESET)
+            for (int literal : trail) stamps[std::abs(literal)] = static_cast<uint32_t>(level);
         if (fault != Fault::KEEPS_UNHANDLED) unhandled.clear();  // those of lower levels were handled when their calls ended
         if (fault == Fault::RESTORES_POINTERS) restore_pointers(level);
         Answer answer;
@@ -138,6 +160,9 @@ public:
 
     int value(int literal) const { return literal > 0 ? values[literal] : -values[-literal]; }
 
+    // What some faults tell for the level of an assigned variable.
+    uint32_t stamp(int variable) const { return stamps[variable]; }
+
     const Formula& formula;
     const Fault fault;
     std::vector<int> trail;
@@ -149,6 +174,8 @@ public:
     uint32_t fixed = 0;  // so many decisions, the oldest ones, are not taken back
 
 private:
+    static constexpr uint32_t UNSTAMPED = std::numeric_limits<uint32_t>::max();
+
     static Answer refused(int number) {
         Answer answer;
         answer.number = number;
@@ -194,7 +221,8 @@ private:
         clauses.assign(clauses.size(), Watched{});
         lists.assign(lists.size(), {});
         values.assign(values.size(), 0);
-        conflict = backtracks = 0;
+        stamps.assign(stamps.size(), UNSTAMPED);
+        conflict = backtracks = made = 0;
         if (fault != Fault::OPENS_FIXED) fixed = 0;
     }
 
@@ -223,12 +251,19 @@ private:
         trail.push_back(literal);
         values[std::abs(literal)] = literal > 0 ? 1 : -1;
         unhandled.push_back(literal);
+        uint32_t& stamp = stamps[std::abs(literal)];
+        if (fault == Fault::LEVEL_AT_FIRST && stamp != UNSTAMPED) return;
+        stamp = static_cast<uint32_t>(fault == Fault::LEVEL_EVER ? made : starts.size());
     }
 
     // All other literals of the clause are false: an open one is implied, a false one is a conflict.
     void imply_or_contradict(size_t clause, int literal) {
-        if (value(literal) == 0) assign(literal);
         if (value(literal) < 0) conflict = clause + 1;
+        if (value(literal) != 0) return;
+        assign(literal);
+        if (fault != Fault::LEVEL_OF_FALSE) return;
+        for (int other : formula.clauses[clause])
+            if (other != literal) stamps[std::abs(literal)] = stamps[std::abs(other)];
     }
 
     // Trail literals are handled once each, in trail order, until a conflict.
@@ -294,4 +329,6 @@ private:
     std::vector<int> values;                 // by variable: 1 true, -1 false, 0 open
     std::deque<int> unhandled;               // trail literals, the oldest first
     std::vector<std::vector<Watched>> kept;  // before each decision, for the fault that restores pointers
+    std::vector<uint32_t> stamps;            // by variable, for faults of lookups; stays over a backtrack
+    uint64_t made = 0;                       // decisions since the opening
 };

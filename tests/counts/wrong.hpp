@@ -19,7 +19,7 @@ struct Wrong {
     View view = [](Seen&) {};
     Reader reading = nullptr;               // none: the right one
     bool in_script = fault != Fault::NONE;  // whether a script can show it
-    bool in_text = false;                   // whether the numbers before and after a call can show it, without another run
+    bool in_text = false;                   // whether the numbers and lookups before and after a call can show it, without another run
 };
 
 inline void drop_counts(Seen& seen) { std::fill(seen.counts.begin(), seen.counts.end(), 0u); }
@@ -90,16 +90,17 @@ inline Wrong wrong_reading(const std::string& name, Reader reading) {
     return wrong;
 }
 
-// No line of a script fixes.
-inline Wrong wrong_fixing(const std::string& name, Fault fault, bool in_text = true) {
+// No line of a script fixes, or looks a feature up.
+inline Wrong wrong_call(const std::string& name, Fault fault, bool in_text = true) {
     Wrong wrong{name, fault};
     wrong.in_script = false;
     wrong.in_text = in_text;
     return wrong;
 }
 
-inline const std::vector<Wrong>& wrong_list() {
-    static const std::vector<Wrong> list = {
+// Of counts, of the steps of document 01, and of reading.
+inline std::vector<Wrong> wrong_steps() {
+    return {
         {"no checks counted", Fault::NONE, drop_counts},
         {"one too few", Fault::NONE, count_less},
         {"one too many", Fault::NONE, count_more},
@@ -120,21 +121,60 @@ inline const std::vector<Wrong>& wrong_list() {
         wrong_reading("forces one literal of a feature both ways", by_clause(imply_one_way)),
         wrong_reading("takes just the feature both ways out", by_clause(drop_variable)),
         wrong_reading("gives rules with a feature both ways no number", renumber),
-        wrong_fixing("takes fixed choices back", Fault::TAKES_FIXED),
-        wrong_fixing("takes fixed choices back in contradiction", Fault::FREES_FIXED),
-        wrong_fixing("takes no choice back next to a fixed one", Fault::STOPS_ABOVE_FIXED),
-        wrong_fixing("says 17 for 16 at a fixed choice", Fault::COUNT_FIRST, false),
-        wrong_fixing("fixes none after a take-back", Fault::DROPS_FIXED),
-        wrong_fixing("keeps the fixed choices at an opening", Fault::OPENS_FIXED, false),
-        wrong_fixing("fixes one more at a choice", Fault::FIXES_DECISIONS),
-        wrong_fixing("fixes fewer than before", Fault::FIXED_FALLS),
-        wrong_fixing("fixes more than are in force", Fault::FIXES_BEYOND),
-        wrong_fixing("refuses to fix as many as before", Fault::REFUSES_SAME),
-        wrong_fixing("fixes in contradiction", Fault::FIXES_IN_CONFLICT),
-        wrong_fixing("says 22 for 14", Fault::RANGE_FIRST),
-        wrong_fixing("fixes although it refuses", Fault::FIXES_REFUSED),
-        wrong_fixing("counts a fixing as a take-back", Fault::COUNTS_FIXING),
-        wrong_fixing("passes sessions with too many fixed choices", Fault::PASSES_BEYOND, false),
     };
+}
+
+// Of K7.
+inline std::vector<Wrong> wrong_fixings() {
+    return {
+        wrong_call("takes fixed choices back", Fault::TAKES_FIXED),
+        wrong_call("takes fixed choices back in contradiction", Fault::FREES_FIXED),
+        wrong_call("takes no choice back next to a fixed one", Fault::STOPS_ABOVE_FIXED),
+        wrong_call("says 17 for 16 at a fixed choice", Fault::COUNT_FIRST, false),
+        wrong_call("fixes none after a take-back", Fault::DROPS_FIXED),
+        wrong_call("keeps the fixed choices at an opening", Fault::OPENS_FIXED, false),
+        wrong_call("fixes one more at a choice", Fault::FIXES_DECISIONS),
+        wrong_call("fixes fewer than before", Fault::FIXED_FALLS),
+        wrong_call("fixes more than are in force", Fault::FIXES_BEYOND),
+        wrong_call("refuses to fix as many as before", Fault::REFUSES_SAME),
+        wrong_call("fixes in contradiction", Fault::FIXES_IN_CONFLICT),
+        wrong_call("says 22 for 14", Fault::RANGE_FIRST),
+        wrong_call("fixes although it refuses", Fault::FIXES_REFUSED),
+        wrong_call("counts a fixing as a take-back", Fault::COUNTS_FIXING),
+        wrong_call("passes sessions with too many fixed choices", Fault::PASSES_BEYOND, false),
+    };
+}
+
+// Of K5.
+inline std::vector<Wrong> wrong_lookups() {
+    return {
+        wrong_call("tells the choices in force for each level", Fault::LEVEL_NOW),
+        wrong_call("tells choices one level too low", Fault::LEVEL_BEFORE),
+        wrong_call("tells forced features one level too high", Fault::LEVEL_BEHIND),
+        wrong_call("counts levels from 0 at the first choice", Fault::LEVEL_BELOW),
+        wrong_call("tells the place on the trail for the level", Fault::LEVEL_AS_PLACE),
+        wrong_call("counts levels from the fixed choices on", Fault::LEVEL_PAST_FIXED),
+        wrong_call("tells no level of forced features", Fault::LEVEL_OF_DECISIONS),
+        wrong_call("tells of forced features the level of another in the rule", Fault::LEVEL_OF_FALSE),
+        wrong_call("tells no level", Fault::LEVEL_LEFT_OUT),
+        wrong_call("tells no level in contradiction", Fault::LEVEL_NO_CONFLICT),
+        wrong_call("tells the level at which a feature was first settled", Fault::LEVEL_AT_FIRST),
+        wrong_call("counts choices that were taken back", Fault::LEVEL_EVER),
+        wrong_call("tells another level after a take-back", Fault::LEVEL_RESET),
+        wrong_call("tells a level of open features", Fault::LEVEL_OF_OPEN),
+        wrong_call("tells wanted for barred", Fault::SIGN_TURNED),
+        wrong_call("tells the last choice as open in contradiction", Fault::TOP_OPEN),
+        wrong_call("tells features over V as open", Fault::OPEN_BEYOND),
+        wrong_call("tells feature 0 as open", Fault::OPEN_AT_ZERO),
+        wrong_call("looks features up without their highest bit", Fault::WRAPS_NUMBERS),
+    };
+}
+
+inline const std::vector<Wrong>& wrong_list() {
+    static const std::vector<Wrong> list = [] {
+        std::vector<Wrong> all = wrong_steps();
+        for (const std::vector<Wrong>& more : {wrong_fixings(), wrong_lookups()}) all.insert(all.end(), more.begin(), more.end());
+        return all;
+    }();
     return list;
 }

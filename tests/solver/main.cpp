@@ -10,6 +10,7 @@
 #include <vector>
 
 #include "../support/bench.hpp"
+#include "../support/closure.hpp"
 #include "../support/compare.hpp"
 #include "../support/follow.hpp"
 #include "../support/layout.hpp"
@@ -17,7 +18,6 @@
 #include "../support/repeats.hpp"
 #include "../support/shapes.hpp"
 #include "../support/totals.hpp"
-#include "closure.hpp"
 
 namespace {
 

@@ -15,6 +15,19 @@ need_library() {
     quiet rt staticlib capi
 }
 
+install_cadical() {
+    apt-get install -y -q libcadical-dev || (apt-get update -q && apt-get install -y -q libcadical-dev)
+}
+
+# What apt-get prints is shown where it fails.
+need_cadical() {
+    [ -e /usr/include/cadical.hpp ] && return
+    echo "$0: installing Debian's libcadical-dev"
+    quiet install_cadical && [ -e /usr/include/cadical.hpp ] && return
+    echo "$0: /usr/include/cadical.hpp is missing and cannot be installed; as root: apt-get install libcadical-dev" >&2
+    exit 1
+}
+
 # quiet COMMAND...: what the command prints is shown where it fails, and nothing otherwise.
 quiet() {
     local said code=0

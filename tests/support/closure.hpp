@@ -7,8 +7,8 @@
 #include <string>
 #include <vector>
 
-#include "../support/formula.hpp"
-#include "../support/play.hpp"
+#include "formula.hpp"
+#include "play.hpp"
 
 // A fresh solver that only propagates: no decision, no preprocessing, and no lucky phases, which plain leaves on.
 // The decisions are unit clauses. A clause can be left out, by its number.

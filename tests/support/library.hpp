@@ -1,14 +1,18 @@
 // The proved engine by its C calls: a book and a session in lent memory that is longer than needed.
 #pragma once
+#include <algorithm>
 #include <cstddef>
 #include <cstdint>
+#include <numeric>
 #include <string>
 #include <tariff.h>
 #include <vector>
 
-#include "../support/random.hpp"
-#include "../support/session.hpp"
-#include "numbers.hpp"
+#include "random.hpp"
+#include "session.hpp"
+
+using Numbers = std::vector<uint32_t>;
+using Lookups = std::vector<uint64_t>;  // what was answered to the numbers below, in their order
 
 // A call of a run: a decision on any number, or a backtrack or a fixing of any number.
 struct Call {
@@ -16,6 +20,14 @@ struct Call {
     Kind kind = DECIDE;
     uint32_t number = 0;
 };
+
+// What lookups are made of: each number from 0 to V + 2 at its own place, and others that are no variable.
+inline Numbers looked_up(uint32_t variables) {
+    Numbers numbers(variables + 3);
+    std::iota(numbers.begin(), numbers.end(), 0u);
+    numbers.insert(numbers.end(), {0x80000000u, 0x80000001u, 0x80000000u + variables, 0xffffffffu});
+    return numbers;
+}
 
 // What is seen of a session after a call.
 struct Seen {
@@ -61,6 +73,22 @@ public:
 
     uint64_t fixed() const { return tariff_fixed(book.numbers.data(), TARIFF_BOOK, session.numbers.data(), session.numbers.size()); }
 
+    uint64_t lookup(uint32_t number) const {
+        return tariff_lookup(book.numbers.data(), TARIFF_BOOK, session.numbers.data(), session.numbers.size(), number);
+    }
+
+    Lookups lookups() const {
+        Lookups answers;
+        for (uint32_t number : looked_up(variables())) answers.push_back(lookup(number));
+        return answers;
+    }
+
+    // Whether it is time for all lookups: always where they examine up to so many numbers, and the more seldom the more they examine.
+    bool lookups_due(Random& random, int numbers) const {
+        size_t examined = variables() * (needed + 4 + book.numbers[1] + book.numbers[2]);
+        return random.below(std::max(static_cast<int>(examined), numbers)) < numbers;
+    }
+
     // From here on the session is lent with another number at a place.
     void lend(size_t place, uint32_t number) { session.numbers[place] = number; }
 
@@ -70,6 +98,7 @@ public:
         return tariff_figures(book.numbers.data(), TARIFF_BOOK, numbers.data(), numbers.size(), figures.data(), figures.size());
     }
 
+    uint32_t variables() const { return book.numbers[0]; }
     size_t required_length() const { return needed; }
     const Lent& lent_book() const { return book; }
     const Lent& lent_session() const { return session; }
