@@ -20,13 +20,14 @@ const REFUSALS: usize = 23;
 /// The calls of a list.
 const LIST: usize = 24;
 
-/// How many calls were compared, by what they answered, how many steps left the numbers of the call, how many states CaDiCaL
-/// confirmed afresh, and how many it answered alike when kept, or by what it had learnt.
+/// How many calls were compared, by what they answered, in how many states every variable was looked up, how many steps left the
+/// numbers of the call, how many states CaDiCaL confirmed afresh, and how many it answered alike when kept, or by what it had learnt.
 #[derive(Default)]
 pub struct Compared {
     pub accepted: usize,
     pub conflicts: usize,
     pub refused: [usize; REFUSALS],
+    pub looked_up: usize,
     pub steps: usize,
     pub confirmed: usize,
     pub alike: usize,
@@ -84,6 +85,15 @@ impl Compared {
             halves.copy_from_slice(&[sum as u32, (sum >> 32) as u32]);
             answer
         });
+    }
+
+    /// A lookup of every variable, and of the numbers before and behind them.
+    fn lookups(&mut self, book: &[u32], session: &[u32]) {
+        let mut numbers = session.to_vec();
+        for variable in 0..=book[0] + 1 {
+            self.both(&mut numbers, |engine, session| engine.lookup(book, session, variable));
+        }
+        self.looked_up += 1;
     }
 
     /// A decision of any literal, refused ones among them.
@@ -175,6 +185,7 @@ impl Compared {
 
     /// Further calls on a state, on damaged copies too.
     fn state(&mut self, random: &mut Random, book: &[u32], session: &[u32]) {
+        self.lookups(book, session);
         self.reading_calls(random, book, session);
         self.random_calls(random, book, session);
         self.damaged_calls(random, book, session);

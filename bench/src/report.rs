@@ -290,6 +290,7 @@ fn equal(compared: &Compared) -> String {
     format!(
         "Both engines gave equal answers and left equal numbers in {} calls: {} accepted, {} in conflict, {} refused (numbers {}).\n\
          These are all workloads and texts above, random calls between them, small books, and damaged sessions, books and texts.\n\
+         In {} states every feature was looked up, with its level.\n\
          The engine's steps without examination left the same numbers as the call in {} steps: all accepted decisions and backtracks of the scripts, and all accepted fixings.\n\
          In {} of the states CaDiCaL, asked afresh, propagated the same values, or a conflict where the session has one.\n\
          Kept, it answered {} questions as the session does, and {} by a conflict that it had learnt and propagation alone does not reach.\n",
@@ -298,6 +299,7 @@ fn equal(compared: &Compared) -> String {
         grouped(compared.conflicts as f64),
         grouped(compared.refusals() as f64),
         named.join(", "),
+        grouped(compared.looked_up as f64),
         grouped(compared.steps as f64),
         grouped(compared.confirmed as f64),
         grouped(compared.alike as f64),

@@ -92,7 +92,7 @@ pub fn fixed(book: &[u32], session: &[u32]) -> Outcome {
     Ok(Answer::Accepted(parts.header[FIXED]))
 }
 
-/// 0 open, 1 positive, 2 negative.
+/// 0 open, 4 × level + 1 positive, 4 × level + 2 negative.
 pub fn lookup(book: &[u32], session: &[u32], variable: u32) -> Outcome {
     let (formula, parts) = validated(book, session)?;
     if variable == 0 || variable as usize > formula.variables {
@@ -100,8 +100,22 @@ pub fn lookup(book: &[u32], session: &[u32], variable: u32) -> Outcome {
     }
     Ok(Answer::Accepted(match parts.values[variable as usize - 1] {
         0 => 0,
-        value => 1 + value % 2,
+        value => 4 * decisions_up_to(&parts, variable) + 1 + value % 2,
     }))
+}
+
+/// The decisions on the trail up to and including the literal of this variable.
+fn decisions_up_to(parts: &Parts<&[u32]>, variable: u32) -> u32 {
+    let mut decisions = 0;
+    let mut before = 0;
+    for (&literal, &level) in parts.trail.iter().zip(parts.levels) {
+        decisions += u32::from(level != before);
+        before = level;
+        if literal / 2 == variable {
+            break;
+        }
+    }
+    decisions
 }
 
 /// Copies what fits, and answers how many there are.
