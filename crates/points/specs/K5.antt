@@ -19,7 +19,7 @@ use Rattle.session.specs.declared.Assigned.the-variants.{Open, Positive, Negati
 use Rattle.points.specs.Points.{listing, opposed, torn}
 
 -- what a lookup answers in the session that holds the run of some calls on a book
-abbrev shown : Formula → List Call → ℕ → Assigned
+abbrev pub shown : Formula → List Call → ℕ → Assigned
 shown formula calls v = lookupAnswer (numbersOf formula) (encode formula (reference formula calls)) v
 
 -- the listing's book, and its first two choices before other calls

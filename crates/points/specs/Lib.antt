@@ -3,3 +3,4 @@ pub mod Points
 pub mod K4
 pub mod K7
 pub mod K5
+pub mod K14

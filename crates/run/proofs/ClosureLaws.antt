@@ -32,7 +32,7 @@ pub closure-closed : (formula : Formula) (ds : List ℕ) → UnitClosed formula 
 closure-closed formula ds c l h others = by-clause c h others
 
 -- more decisions, more closure
-pub closure-grows : {formula : Formula} {ds : List ℕ} (more : List ℕ) → ((l : ℕ) → member l ds ≡ true → member l more ≡ true) → {l : ℕ}
+closure-grows : {formula : Formula} {ds : List ℕ} (more : List ℕ) → ((l : ℕ) → member l ds ≡ true → member l more ≡ true) → {l : ℕ}
     → Closure formula ds l → Closure formula more l
 closure-grows {formula} {ds} more contained =
     closure-within (Closure formula more) (λ l h. in-force (contained l h)) (closure-closed formula more)
@@ -87,7 +87,7 @@ decisions-true (e ∷ trail) l h = go (e .decided) h (λ k. true-grows e trail l
 
 -- out of conflict the trail of a valid run is closed under the unit rule
 module _ (formula : Formula) (s : sound formula ≡ true) (run : Run) (v : Valid formula run) where
-  not-both : (l : ℕ) → isTrue (run .trail) l ≡ true → isFalse (run .trail) l ≡ true → ⊥
+  pub not-both : (l : ℕ) → isTrue (run .trail) l ≡ true → isFalse (run .trail) l ≡ true → ⊥
   not-both l t f =
       never f (place-untrue (run .trail) (opposite l) (consistent (run .trail) l (v .trail-distinct) (true-place (run .trail) l t)))
 

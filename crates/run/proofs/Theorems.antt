@@ -3,13 +3,13 @@ use Prim.Native.Nat.{ℕ, suc, _+_, _≤_, _<_}
 use native.Mathlib.Omega.{arith}
 use mathlib.Core.Bool.{Bool, true, false, cond, not}
 use mathlib.Core.List.{List, [], _∷_, _++_}
-use mathlib.Core.Logic.{inl, _↔_}
+use mathlib.Core.Logic.{_⊎_, inl, inr, _↔_}
 use mathlib.Core.Path.{_≡_, refl, sym, ap, _∙_}
-use borrow.Author.Tests.{eqb-true, ne-eqb, lt-leb}
+use borrow.Author.Tests.{eqb-true, ne-eqb, lt-leb, not-false}
 use lib.Dec.{eqb}
 use lib.ListN.{length, getD, drop}
 use Rattle.base.specs.Lists.{all, member, distinct, times}
-use Rattle.base.proofs.Bools.{never, same-test, refuted}
+use Rattle.base.proofs.Bools.{never, same-test, refuted, true-or-false}
 use Rattle.base.proofs.ForAll.{member-times}
 use Rattle.book.specs.Formula.{Formula, positive, sound}
 use Rattle.run.specs.Trail.{Entry, place, isTrue, isFalse, isAssigned, isMet, variablesOn, decisions, cut}
@@ -22,7 +22,7 @@ use Rattle.run.proofs.ScanLaws.{scan-found}
 use Rattle.run.proofs.Growth.{Grown, same, grown-by, grown-decisions, grown-suffix, grown-gains, units-grow, propagating-grows}
 use Rattle.run.proofs.Validity.{propagated, fuel-enough, decision-accepted, decision-going, decided-valid, backtrack-accepted, backtracked-valid, fix-accepted, fixed-valid}
 use Rattle.run.proofs.Opening.{opening-state}
-use Rattle.run.proofs.ClosureLaws.{closure-within, closure-holds, closure-closed, closure-grows, assigned-closure, conflict-both-ways}
+use Rattle.run.proofs.ClosureLaws.{closure-within, closure-holds, closure-closed, decisions-true, not-both, trail-closed, assigned-closure, conflict-both-ways}
 use Rattle.run.proofs.MetLaws.{all-met}
 use Rattle.run.proofs.Levels.{suffix-length, suffix-append, cut-suffix, cut-decisions}
 use Rattle.run.proofs.Actions.{Case, staying, moving, implying, conflicting, action-case}
@@ -165,30 +165,47 @@ pub backtrack-keeps : (k : ℕ) (run : Run)
 unfolding backtrack
 backtrack-keeps k run = (refl, refl, refl, refl, refl, refl, refl, cut-decisions k (run .trail), suffix-append (cut-suffix k (run .trail)))
 
--- Valid runs of one formula with the same decisions in force, in any order, agree.
+-- Decisions that are all true in a valid run out of conflict have their closure true in it.
+closure-true : (formula : Formula) (ds : List ℕ) (run : Run) → sound formula ≡ true → Valid formula run → run .conflict ≡ 0
+    → Contains ds (λ (l : ℕ). isTrue (run .trail) l ≡ true) → (l : ℕ) → Closure formula ds l → isTrue (run .trail) l ≡ true
+closure-true formula ds run s v quiet decided l = closure-within (λ (m : ℕ). isTrue (run .trail) m ≡ true) decided (trail-closed formula s run v quiet)
+
+-- Valid runs of one formula, neither in conflict, agree where each decision in force in the one is true in the other.
+pub true-decisions-agree : (formula : Formula) (a b : Run) → sound formula ≡ true → Valid formula a → Valid formula b
+    → Contains (decisions (a .trail)) (λ (l : ℕ). isTrue (b .trail) l ≡ true)
+    → Contains (decisions (b .trail)) (λ (l : ℕ). isTrue (a .trail) l ≡ true)
+    → a .conflict ≡ 0 → b .conflict ≡ 0 → (l : ℕ) → isTrue (a .trail) l ≡ isTrue (b .trail) l
+true-decisions-agree formula a b s v w in-b in-a p q l =
+    same-test (isTrue (a .trail) l) (isTrue (b .trail) l)
+    (λ t. closure-true formula (decisions (a .trail)) b s w q in-b l (assigned-closure formula s a v p l .0 t))
+    (λ t. closure-true formula (decisions (b .trail)) a s v p in-a l (assigned-closure formula s b w q l .0 t))
+
+-- Where the decisions of one in conflict are true in the other, the other is in conflict, too.
+pub true-decisions-conflict : (formula : Formula) (a b : Run) → sound formula ≡ true → Valid formula a → Valid formula b
+    → Contains (decisions (a .trail)) (λ (l : ℕ). isTrue (b .trail) l ≡ true) → inConflict a ≡ true → inConflict b ≡ true
+true-decisions-conflict formula a b s v w in-b e = go (true-or-false (inConflict b))
+  where
+    go : (inConflict b ≡ true) ⊎ (inConflict b ≡ false) → inConflict b ≡ true
+    go (inl f) = f
+    go (inr f) =
+        let quiet : b .conflict ≡ 0 = eqb-true (b .conflict) 0 (not-false (eqb (b .conflict) 0) f) in
+        let holds = closure-true formula (decisions (a .trail)) b s w quiet in-b in
+        let both = conflict-both-ways formula s a v .0 e in
+        absurd (not-both formula s b w (both .0) (holds _ (both .1)) (holds _ (both .2)))
+
+-- Both hold where the same decisions are in force, in any order.
 pub same-decisions-agree : (formula : Formula) (a b : Run) → sound formula ≡ true → Valid formula a → Valid formula b
     → ((l : ℕ) → member l (decisions (a .trail)) ≡ member l (decisions (b .trail)))
     → a .conflict ≡ 0 → b .conflict ≡ 0 → (l : ℕ) → isTrue (a .trail) l ≡ isTrue (b .trail) l
-same-decisions-agree formula a b s v w same-ds p q l =
-    same-test (isTrue (a .trail) l) (isTrue (b .trail) l)
-    (λ t. on-b .1 (closure-grows (decisions (b .trail)) (λ m h. sym (same-ds m) ∙ h) (on-a .0 t)))
-    (λ t. on-a .1 (closure-grows (decisions (a .trail)) (λ m h. same-ds m ∙ h) (on-b .0 t)))
-  where
-    on-a : (isTrue (a .trail) l ≡ true) ↔ Closure formula (decisions (a .trail)) l
-    on-a = assigned-closure formula s a v p l
-
-    on-b : (isTrue (b .trail) l ≡ true) ↔ Closure formula (decisions (b .trail)) l
-    on-b = assigned-closure formula s b w q l
+same-decisions-agree formula a b s v w same-ds =
+    true-decisions-agree formula a b s v w
+    (λ l h. decisions-true (b .trail) l (sym (same-ds l) ∙ h)) (λ l h. decisions-true (a .trail) l (same-ds l ∙ h))
 
 pub conflicting-decisions : (formula : Formula) (a b : Run) → sound formula ≡ true → Valid formula a → Valid formula b
     → ((l : ℕ) → member l (decisions (a .trail)) ≡ member l (decisions (b .trail)))
     → inConflict a ≡ true → inConflict b ≡ true
-conflicting-decisions formula a b s v w same-ds e =
-    let both = conflict-both-ways formula s a v .0 e in
-    conflict-both-ways formula s b w .1 (both .0, also (both .1), also (both .2))
-  where
-    also : {l : ℕ} → Closure formula (decisions (a .trail)) l → Closure formula (decisions (b .trail)) l
-    also k = closure-grows (decisions (b .trail)) (λ m h. sym (same-ds m) ∙ h) k
+conflicting-decisions formula a b s v w same-ds =
+    true-decisions-conflict formula a b s v w (λ l h. decisions-true (b .trail) l (sym (same-ds l) ∙ h))
 
 -- The fuel never runs out: with any larger fuel the opening and an accepted decision are the same.
 pub fuel-suffices : (formula : Formula) → sound formula ≡ true → (extra : ℕ)

@@ -1,0 +1,2 @@
+-- The theorems of `agreement`.
+pub mod TwoAgents

@@ -1,0 +1,2 @@
+-- The definitions of `agreement`.
+pub mod Agreement
