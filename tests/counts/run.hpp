@@ -1,5 +1,7 @@
 // The written run, from documents 01 and 02 and not from the definitions or the code: trail, watches, pointers, lists, conflict, fixed decisions, counts.
+// tests/agreement makes sessions by it, too.
 #pragma once
+#include <algorithm>
 #include <cstddef>
 #include <cstdint>
 #include <cstdlib>
@@ -22,6 +24,7 @@ enum class Fault {
     SCANS_SATISFIED,     // a clause is scanned although its other watch is true
     RESTORES_POINTERS,   // a backtrack puts the pointers back
     MOVES_TO_UNHANDLED,  // a watch moves to a literal that is false but not handled yet
+    MOVES_TO_HANDLED,    // a watch moves to a literal that is false since before the latest decision
     KEEPS_UNHANDLED,     // unhandled literals stay to be handled over a backtrack
     PUTS_BEHIND,         // a clause goes to the back of a watch list
     CONTRADICTS_EMPTY,   // a clause of no literals is a conflict at the opening
@@ -315,10 +318,9 @@ private:
     }
 
     bool passes_for_open(int literal) const {
-        if (fault != Fault::MOVES_TO_UNHANDLED) return false;
-        for (int waiting : unhandled)
-            if (waiting == -literal) return true;
-        return false;
+        auto among = [&](auto begin, auto end) { return std::find(begin, end, -literal) != end; };
+        if (fault == Fault::MOVES_TO_UNHANDLED) return among(unhandled.begin(), unhandled.end());
+        return fault == Fault::MOVES_TO_HANDLED && !starts.empty() && among(trail.begin(), trail.begin() + static_cast<std::ptrdiff_t>(starts.back()));
     }
 
     void restore_pointers(size_t level) {

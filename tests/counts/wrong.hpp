@@ -111,6 +111,7 @@ inline std::vector<Wrong> wrong_steps() {
         {"scans rules whose other watch is true", Fault::SCANS_SATISFIED},
         {"puts pointers back on take-back", Fault::RESTORES_POINTERS},
         {"moves watches to false unhandled literals", Fault::MOVES_TO_UNHANDLED},
+        {"moves watches to literals that were false before", Fault::MOVES_TO_HANDLED},
         {"keeps unhandled literals over a take-back", Fault::KEEPS_UNHANDLED},
         {"puts rules at the back of watch lists", Fault::PUTS_BEHIND},
         {"takes rules of no literals for contradictions", Fault::CONTRADICTS_EMPTY},

@@ -10,14 +10,16 @@
 #include <vector>
 
 #include "../support/bench.hpp"
+#include "../support/cases.hpp"
 #include "walk.hpp"
 
 namespace {
 
-constexpr uint64_t FIRST_SEED = 70050000;
 constexpr int CASES = 2000;
 constexpr int SELF_CHECKS = 120;
 constexpr int ENOUGH = 5;
+
+const Cases cases("levels", 70050000);
 
 bool is_open(uint64_t answer) { return tariff_state(answer) == TARIFF_IS_OPEN; }
 
@@ -77,26 +79,17 @@ const std::vector<Wrong>& wrong_list() {
     return list;
 }
 
-// What is wrong of a case, or nothing.
-std::string disagreement(int number, const View& view, Tally& tally) {
-    uint64_t seed = FIRST_SEED + static_cast<uint64_t>(number);
-    const shapes::Shape& shape = shapes::of_case(number);
-    try {
-        Walk(seed, shape, view, tally).run();
-        return "";
-    } catch (const Disagreement& disagreement) {
-        return shape.name + " seed " + std::to_string(seed) + ": " + disagreement.what();
-    }
+// A case as Cases runs it.
+auto seen_by(const View& view, Tally& tally) {
+    return [view, &tally](uint64_t seed, const shapes::Shape& shape) { Walk(seed, shape, view, tally).run(); };
 }
 
 // Every wrong view has to differ in some of the first cases; it is tried until it did in enough.
 void check_wrong() {
     std::cout << "levels: wrong levels noticed, in so many of the cases tried:";
     for (const Wrong& wrong : wrong_list()) {
-        int noticed = 0, tried = 0;
         Tally tally;
-        for (; tried < SELF_CHECKS && noticed < ENOUGH; tried++)
-            if (!disagreement(tried, wrong.view, tally).empty()) noticed++;
+        auto [noticed, tried] = cases.trial(SELF_CHECKS, ENOUGH, seen_by(wrong.view, tally));
         if (noticed < ENOUGH) throw std::runtime_error("not noticed: " + wrong.name);
         std::cout << (&wrong == &wrong_list().front() ? " " : ", ") << wrong.name << " " << noticed << " of " << tried;
     }
@@ -107,14 +100,7 @@ int test() {
     auto start = std::chrono::steady_clock::now();
     check_wrong();
     Tally tally;
-    int failures = 0, number = 0;
-    for (; number < CASES && failures < 3; number++) {
-        std::string wrong = disagreement(number, right, tally);
-        if (wrong.empty()) continue;
-        failures++;
-        std::cout << "FAILED " << wrong << "\n";
-    }
-    std::cout << "levels: seeds " << FIRST_SEED << " to " << FIRST_SEED + static_cast<uint64_t>(number) - 1 << "\n";
+    int failures = cases.failures(CASES, seen_by(right, tally));
     tally.print(std::chrono::duration<double>(std::chrono::steady_clock::now() - start).count());
     return failures == 0 ? 0 : 1;
 }

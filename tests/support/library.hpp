@@ -71,6 +71,9 @@ public:
         return seen;
     }
 
+    // The rule that the session's figures name; 0 out of contradiction.
+    uint32_t conflict() const { return copied(tariff_figures, TARIFF_FIGURES)[TARIFF_RULE]; }
+
     uint64_t fixed() const { return tariff_fixed(book.numbers.data(), TARIFF_BOOK, session.numbers.data(), session.numbers.size()); }
 
     uint64_t lookup(uint32_t number) const {
