@@ -3,8 +3,7 @@ use Prim.Native.Nat.{ℕ}
 use mathlib.Core.Path.{_≡_, refl, ap, sym, _∙_}
 use mathlib.Core.Bool.{Bool, true, false, cond, _&&_}
 use mathlib.Core.List.{List}
-use borrow.Author.Tests.{eqb-true, not-false}
-use lib.Dec.{leb, eqb}
+use lib.Dec.{leb}
 use lib.ListN.{length}
 use Rattle.base.specs.Lists.{member}
 use Rattle.base.proofs.Bools.{same-test}
@@ -16,6 +15,7 @@ use Rattle.run.specs.Run.{Run, inConflict}
 use Rattle.run.specs.Calls.{Call, reference}
 use Rattle.run.specs.Valid.{Valid}
 use Rattle.run.proofs.Theorems.{same-decisions-agree, conflicting-decisions, true-decisions-agree, true-decisions-conflict}
+use Rattle.run.proofs.Propagation.{out-quiet}
 use Rattle.run.proofs.ClosureLaws.{decisions-true}
 use Rattle.layout.specs.Layout.{held}
 use Rattle.validation.specs.Validation.{callRefusal, readRefusal}
@@ -77,12 +77,11 @@ module _ (book a b : List ℕ) (e : readRefusal book a ≡ 0) (f : readRefusal b
       record {
         conflicts = alike;
         lookups = λ quiet v.
-            let true-alike = same (none runA quiet) (none runB (sym alike ∙ quiet)) in
+            let quiet-a : inConflict runA ≡ false = cc in
+            let quiet-b : inConflict runB ≡ false = cc in
+            let true-alike = same (out-quiet runA quiet-a) (out-quiet runB quiet-b) in
             rw (lookup-says book a (sym e) v, lookup-says book b (sym f) v, true-alike (positive v), true-alike (negative v));
       }
-    where
-      none : (run : Run) → inConflict run ≡ false → run .conflict ≡ 0
-      none run quiet = eqb-true (run .conflict) 0 (not-false (eqb (run .conflict) 0) quiet)
 
   -- Two that hold the same decisions have one outcome.
   pub two-agents : SameDecisions book a b → Agreement book a b
@@ -121,16 +120,22 @@ two-lists book lentA lentB callsA callsB e f same =
     passing : {lent : List ℕ} {calls : List Call} {numbers : List ℕ} → Statement3 book lent calls numbers → readRefusal book numbers ≡ 0
     passing {numbers = numbers} statement = sym (read-none book numbers (statement .book-passes) (statement .session-passes))
 
--- A session on book numbers that hold the same formula is refused alike, and every lookup answers the same, the level included.
-another-copy : (book copy session : List ℕ) → wellFormed book ≡ true → wellFormed copy ≡ true → formulaOf book ≡ formulaOf copy
-    → (readRefusal book session ≡ readRefusal copy session) × ((v : ℕ) → lookupAnswer book session v ≡ lookupAnswer copy session v)
+-- A copy of the book, with other numbers behind it: well-formed numbers that hold the same formula. On either a session is refused alike and holds the same
+-- run, and every lookup answers the same, the level included; so each theorem above holds of agents with a copy each.
+pub another-copy : (book copy session : List ℕ) → wellFormed book ≡ true → wellFormed copy ≡ true → formulaOf book ≡ formulaOf copy
+    → (readRefusal book session ≡ readRefusal copy session)
+    × (held (formulaOf book) session ≡ held (formulaOf copy) session)
+    × ((v : ℕ) → lookupAnswer book session v ≡ lookupAnswer copy session v)
 unfolding readRefusal callRefusal lookupAnswer lookupRefusal
-another-copy book copy session ok well-copied same =
-    (rw (ok, well-copied, same), λ v. rw (ok, well-copied, same, ap (λ (f : Formula). f .variables) same))
+another-copy book copy session ok well-copied same = (
+  rw (ok, well-copied, same),
+  ap (λ (f : Formula). held f session) same,
+  λ v. rw (ok, well-copied, same, ap (λ (f : Formula). f .variables) same),
+)
 
--- So two agents may each have a copy of the book, with other numbers behind it: numbers that hold the same formula. On either a session holds the same run.
+-- The first of them: b is on the copy.
 pub two-copies : (book copy a b : List ℕ) → formulaOf book ≡ formulaOf copy → readRefusal book a ≡ 0 → readRefusal copy b ≡ 0 → SameDecisions book a b
-    → Agreement book a b × (held (formulaOf book) b ≡ held (formulaOf copy) b) × ((v : ℕ) → lookupAnswer book b v ≡ lookupAnswer copy b v)
+    → Agreement book a b × ((v : ℕ) → lookupAnswer book b v ≡ lookupAnswer copy b v)
 two-copies book copy a b one-book e f same =
     let on-copy = another-copy book copy b (well book a (sym e)) (well copy b (sym f)) one-book in
-    (two-agents book a b e (on-copy .0 ∙ f) same, ap (λ (g : Formula). held g b) one-book, on-copy .1)
+    (two-agents book a b e (on-copy .0 ∙ f) same, on-copy .2)

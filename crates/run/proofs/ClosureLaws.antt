@@ -5,7 +5,7 @@ use mathlib.Core.Bool.{Bool, true, false, cond, or-true}
 use mathlib.Core.List.{List, [], _∷_}
 use mathlib.Core.Logic.{_⊎_, inl, inr, ⊎-elim, _↔_}
 use mathlib.Core.Path.{_≡_, refl, sym, ap, subst, _∙_}
-use borrow.Author.Tests.{eqb-true, eq-eqb, not-false, leb-true, leb-false}
+use borrow.Author.Tests.{eqb-true, eq-eqb, leb-true, leb-false}
 use lib.Dec.{leb, eqb}
 use lib.ListN.{getD}
 use Rattle.base.specs.Lists.{member}
@@ -16,8 +16,9 @@ use Rattle.run.specs.Trail.{Entry, opposite, place, isTrue, isFalse, dec
 use Rattle.run.specs.Run.{Run, clauseOf, size, cellOf, inConflict}
 use Rattle.run.specs.Valid.{Justified, WatchesHold, firstWatch, secondWatch, Watching, Valid}
 use Rattle.run.specs.Closure.{Closure, Closure.decided as in-force, Closure.implied as by-clause, UnitClosed, Contains, BothWays}
-use Rattle.run.proofs.Trails.{PlaceCase, true-place, place-true, place-untrue, place-new, place-cases, true-grows, consistent}
+use Rattle.run.proofs.Trails.{PlaceCase, true-place, place-true, place-new, place-cases, true-grows, true-unfalse}
 use Rattle.run.proofs.WatchLists.{literals-differ}
+use Rattle.run.proofs.Propagation.{out-quiet}
 
 -- the closure is contained in every set that holds the decisions and is closed under the unit rule
 pub closure-within : {formula : Formula} {ds : List ℕ} (S : ℕ → Type 0) → Contains ds S → UnitClosed formula S → {l : ℕ}
@@ -87,9 +88,8 @@ decisions-true (e ∷ trail) l h = go (e .decided) h (λ k. true-grows e trail l
 
 -- out of conflict the trail of a valid run is closed under the unit rule
 module _ (formula : Formula) (s : sound formula ≡ true) (run : Run) (v : Valid formula run) where
-  pub not-both : (l : ℕ) → isTrue (run .trail) l ≡ true → isFalse (run .trail) l ≡ true → ⊥
-  not-both l t f =
-      never f (place-untrue (run .trail) (opposite l) (consistent (run .trail) l (v .trail-distinct) (true-place (run .trail) l t)))
+  not-both : (l : ℕ) → isTrue (run .trail) l ≡ true → isFalse (run .trail) l ≡ true → ⊥
+  not-both l t f = never f (true-unfalse (run .trail) (v .trail-distinct) l t)
 
   -- of two watches, one of them false, the other one is true
   other-true : (a b : ℕ) → WatchesHold (run .trail) a b → isFalse (run .trail) b ≡ true → isTrue (run .trail) a ≡ true
@@ -102,7 +102,7 @@ module _ (formula : Formula) (s : sound formula ≡ true) (run : Run) (v : Valid
   swap-holds a b (inr (inl g)) = inr (inr g)
   swap-holds a b (inr (inr g)) = inr (inl g)
 
-  pub trail-closed : run .conflict ≡ 0 → UnitClosed formula (λ (l : ℕ). isTrue (run .trail) l ≡ true)
+  trail-closed : run .conflict ≡ 0 → UnitClosed formula (λ (l : ℕ). isTrue (run .trail) l ≡ true)
   trail-closed quiet c l h others = go (true-or-false (leb 2 (size formula c)))
     where
       one-literal : size formula c < 2 → isTrue (run .trail) l ≡ true
@@ -147,15 +147,29 @@ module _ (formula : Formula) (s : sound formula ≡ true) (run : Run) (v : Valid
           watches (inl p) (inr q) = rw p at (other-true a b hold (others b b-in q))
           watches (inr p) (inr q) = absurd (not-both a (other-true a b hold (others b b-in q)) (others a a-in p))
 
+  -- decisions that are all true have their closure true, out of conflict; so where it holds a literal both ways, the run is in conflict
+  module _ (ds : List ℕ) (all-true : Contains ds (λ (l : ℕ). isTrue (run .trail) l ≡ true)) where
+    pub closure-true : run .conflict ≡ 0 → (l : ℕ) → Closure formula ds l → isTrue (run .trail) l ≡ true
+    closure-true quiet l = closure-within (λ (m : ℕ). isTrue (run .trail) m ≡ true) all-true (trail-closed quiet)
+
+    pub both-ways-conflict : BothWays (Closure formula ds) → inConflict run ≡ true
+    both-ways-conflict b = go (true-or-false (inConflict run))
+      where
+        go : (inConflict run ≡ true) ⊎ (inConflict run ≡ false) → inConflict run ≡ true
+        go (inl e) = e
+        go (inr e) =
+            let holds = closure-true (out-quiet run e) in
+            absurd (not-both (b .0) (holds (b .0) (b .1)) (holds (opposite (b .0)) (b .2)))
+
   -- a literal of the closure is on the trail, out of conflict, and the trail is in the closure
   pub assigned-closure : run .conflict ≡ 0 → (l : ℕ) → (isTrue (run .trail) l ≡ true) ↔ Closure formula (decisions (run .trail)) l
   assigned-closure quiet l = (
     trail-closure formula (run .trail) (v .justified) l,
-    closure-within (λ (m : ℕ). isTrue (run .trail) m ≡ true) (decisions-true (run .trail)) (trail-closed quiet),
+    closure-true (decisions (run .trail)) (decisions-true (run .trail)) quiet l,
   )
 
   pub conflict-both-ways : (inConflict run ≡ true) ↔ BothWays (Closure formula (decisions (run .trail)))
-  conflict-both-ways = (λ e. forth (run .conflict) refl e, λ b. back b (true-or-false (inConflict run)))
+  conflict-both-ways = (λ e. forth (run .conflict) refl e, both-ways-conflict ds (decisions-true (run .trail)))
     where
       ds : List ℕ
       ds = decisions (run .trail)
@@ -169,9 +183,3 @@ module _ (formula : Formula) (s : sound formula ≡ true) (run : Run) (v : Valid
           let all-false : (m : ℕ) → member m (clauseOf formula c) ≡ true → Closure formula ds (opposite m)
           = λ m k. trail-closure formula (run .trail) (v .justified) (opposite m) (r .1 m k) in
           (l, by-clause c holds (λ m k n. all-false m k), all-false l holds)
-
-      back : BothWays (Closure formula ds) → (inConflict run ≡ true) ⊎ (inConflict run ≡ false) → inConflict run ≡ true
-      back b (inl e) = e
-      back b (inr e) =
-          let quiet : run .conflict ≡ 0 = eqb-true (run .conflict) 0 (not-false (eqb (run .conflict) 0) e) in
-          absurd (not-both (b .0) (assigned-closure quiet (b .0) .1 (b .1)) (assigned-closure quiet (opposite (b .0)) .1 (b .2)))

@@ -5,18 +5,19 @@ use mathlib.Core.Bool.{true, false, not}
 use mathlib.Core.List.{List, _∷_}
 use mathlib.Core.Logic.{_⊎_, inl, inr, ⊎-elim}
 use mathlib.Core.Path.{_≡_, sym, _∙_, ap}
-use borrow.Author.Tests.{eq-eqb}
+use borrow.Author.Tests.{eqb-true, eq-eqb, not-false}
+use lib.Dec.{eqb}
 use lib.ListN.{length, getD, length-set}
 use Rattle.base.specs.Lists.{member, distinct}
 use Rattle.base.proofs.Bools.{true-or-false, both}
 use Rattle.base.proofs.Lists.{getD-set-cases}
 use Rattle.book.specs.Formula.{Formula, literalWithin}
-use Rattle.run.specs.Trail.{Entry, opposite, place, isTrue, isFalse, decisions, level, lowered, variablesOn}
+use Rattle.run.specs.Trail.{Entry, opposite, place, isFalse, decisions, level, lowered, variablesOn}
 use Rattle.run.specs.Scan.{Cell}
 use Rattle.run.specs.Run.{Run, clauseOf, size, maxCount, inConflict, addChecks}
 use Rattle.run.specs.Valid.{Guarded, WatchesHold, Fixpoint, Valid, Reason}
 use Rattle.run.specs.Progress.{Guard, BothGuarded, Pending, Trailed, Counted, Structure, Going}
-use Rattle.run.proofs.Trails.{PlaceCase, true-place, place-true, untrue-place, place-untrue, place-cases, place-within, consistent, off-trail}
+use Rattle.run.proofs.Trails.{PlaceCase, true-place, place-true, untrue-place, place-cases, place-within, true-unfalse, off-trail}
 use Rattle.run.proofs.Levels.{newer, whole, suffix-length, suffix-place, suffix-on, suffix-level, lowered-suffix, lower-level, below-top}
 
 pub guarded-swap : {trail : List Entry} {h a b : ℕ} → BothGuarded trail h a b → BothGuarded trail h b a
@@ -42,16 +43,13 @@ holds-guarded {trail} {a} {b} d w h = go w
     unfalse : (x y : ℕ) → isFalse trail x ≡ false → Guard trail h x y
     unfalse x y f p q = absurd (let z = untrue-place trail (opposite x) f in omega arith)
 
-    true-unfalse : (x : ℕ) → isTrue trail x ≡ true → isFalse trail x ≡ false
-    true-unfalse x t = place-untrue trail (opposite x) (consistent trail x d (true-place trail x t))
-
     guard : (x y : ℕ) → Guarded trail x y → Guard trail h x y
     guard x y g p q = (true-place trail y (g .1), g .2)
 
     go : WatchesHold trail a b → BothGuarded trail h a b
     go (inl n) = record { forth = unfalse a b (n .0); back = unfalse b a (n .1) }
-    go (inr (inl g)) = record { forth = guard a b g; back = unfalse b a (true-unfalse b (g .1)) }
-    go (inr (inr g)) = record { forth = unfalse a b (true-unfalse a (g .1)); back = guard b a g }
+    go (inr (inl g)) = record { forth = guard a b g; back = unfalse b a (true-unfalse trail d b (g .1)) }
+    go (inr (inr g)) = record { forth = unfalse a b (true-unfalse trail d a (g .1)); back = guard b a g }
 
 -- one entry more, of a literal that was not on the trail: old places and levels stay
 pub old-stays : (e : Entry) (trail : List Entry) → place trail (e .literal) ≡ 0 → (l : ℕ) → 0 < place trail l
@@ -223,6 +221,9 @@ structure-valid s fixpoint conflict-false fixpoint-below =
 
 pub quiet-out : (run : Run) → run .conflict ≡ 0 → inConflict run ≡ false
 quiet-out run e = rw (eq-eqb (run .conflict) 0 e)
+
+pub out-quiet : (run : Run) → inConflict run ≡ false → run .conflict ≡ 0
+out-quiet run e = eqb-true (run .conflict) 0 (not-false (eqb (run .conflict) 0) e)
 
 -- all handled is valid
 pub going-valid : {formula : Formula} {handled : ℕ} {run : Run} → Going formula handled run → length (run .trail) ≤ handled

@@ -3,13 +3,13 @@ use Prim.Native.Nat.{ℕ, suc, _+_, _≤_, _<_}
 use native.Mathlib.Omega.{arith}
 use mathlib.Core.Bool.{Bool, true, false, cond, not}
 use mathlib.Core.List.{List, [], _∷_, _++_}
-use mathlib.Core.Logic.{_⊎_, inl, inr, _↔_}
+use mathlib.Core.Logic.{inl, _↔_}
 use mathlib.Core.Path.{_≡_, refl, sym, ap, _∙_}
-use borrow.Author.Tests.{eqb-true, ne-eqb, lt-leb, not-false}
+use borrow.Author.Tests.{eqb-true, ne-eqb, lt-leb}
 use lib.Dec.{eqb}
 use lib.ListN.{length, getD, drop}
 use Rattle.base.specs.Lists.{all, member, distinct, times}
-use Rattle.base.proofs.Bools.{never, same-test, refuted, true-or-false}
+use Rattle.base.proofs.Bools.{never, same-test, refuted}
 use Rattle.base.proofs.ForAll.{member-times}
 use Rattle.book.specs.Formula.{Formula, positive, sound}
 use Rattle.run.specs.Trail.{Entry, place, isTrue, isFalse, isAssigned, isMet, variablesOn, decisions, cut}
@@ -22,7 +22,7 @@ use Rattle.run.proofs.ScanLaws.{scan-found}
 use Rattle.run.proofs.Growth.{Grown, same, grown-by, grown-decisions, grown-suffix, grown-gains, units-grow, propagating-grows}
 use Rattle.run.proofs.Validity.{propagated, fuel-enough, decision-accepted, decision-going, decided-valid, backtrack-accepted, backtracked-valid, fix-accepted, fixed-valid}
 use Rattle.run.proofs.Opening.{opening-state}
-use Rattle.run.proofs.ClosureLaws.{closure-within, closure-holds, closure-closed, decisions-true, not-both, trail-closed, assigned-closure, conflict-both-ways}
+use Rattle.run.proofs.ClosureLaws.{closure-within, closure-holds, closure-closed, decisions-true, closure-true, both-ways-conflict, assigned-closure, conflict-both-ways}
 use Rattle.run.proofs.MetLaws.{all-met}
 use Rattle.run.proofs.Levels.{suffix-length, suffix-append, cut-suffix, cut-decisions}
 use Rattle.run.proofs.Actions.{Case, staying, moving, implying, conflicting, action-case}
@@ -165,11 +165,6 @@ pub backtrack-keeps : (k : ℕ) (run : Run)
 unfolding backtrack
 backtrack-keeps k run = (refl, refl, refl, refl, refl, refl, refl, cut-decisions k (run .trail), suffix-append (cut-suffix k (run .trail)))
 
--- Decisions that are all true in a valid run out of conflict have their closure true in it.
-closure-true : (formula : Formula) (ds : List ℕ) (run : Run) → sound formula ≡ true → Valid formula run → run .conflict ≡ 0
-    → Contains ds (λ (l : ℕ). isTrue (run .trail) l ≡ true) → (l : ℕ) → Closure formula ds l → isTrue (run .trail) l ≡ true
-closure-true formula ds run s v quiet decided l = closure-within (λ (m : ℕ). isTrue (run .trail) m ≡ true) decided (trail-closed formula s run v quiet)
-
 -- Valid runs of one formula, neither in conflict, agree where each decision in force in the one is true in the other.
 pub true-decisions-agree : (formula : Formula) (a b : Run) → sound formula ≡ true → Valid formula a → Valid formula b
     → Contains (decisions (a .trail)) (λ (l : ℕ). isTrue (b .trail) l ≡ true)
@@ -177,21 +172,14 @@ pub true-decisions-agree : (formula : Formula) (a b : Run) → sound formula ≡
     → a .conflict ≡ 0 → b .conflict ≡ 0 → (l : ℕ) → isTrue (a .trail) l ≡ isTrue (b .trail) l
 true-decisions-agree formula a b s v w in-b in-a p q l =
     same-test (isTrue (a .trail) l) (isTrue (b .trail) l)
-    (λ t. closure-true formula (decisions (a .trail)) b s w q in-b l (assigned-closure formula s a v p l .0 t))
-    (λ t. closure-true formula (decisions (b .trail)) a s v p in-a l (assigned-closure formula s b w q l .0 t))
+    (λ t. closure-true formula s b w (decisions (a .trail)) in-b q l (assigned-closure formula s a v p l .0 t))
+    (λ t. closure-true formula s a v (decisions (b .trail)) in-a p l (assigned-closure formula s b w q l .0 t))
 
 -- Where the decisions of one in conflict are true in the other, the other is in conflict, too.
 pub true-decisions-conflict : (formula : Formula) (a b : Run) → sound formula ≡ true → Valid formula a → Valid formula b
     → Contains (decisions (a .trail)) (λ (l : ℕ). isTrue (b .trail) l ≡ true) → inConflict a ≡ true → inConflict b ≡ true
-true-decisions-conflict formula a b s v w in-b e = go (true-or-false (inConflict b))
-  where
-    go : (inConflict b ≡ true) ⊎ (inConflict b ≡ false) → inConflict b ≡ true
-    go (inl f) = f
-    go (inr f) =
-        let quiet : b .conflict ≡ 0 = eqb-true (b .conflict) 0 (not-false (eqb (b .conflict) 0) f) in
-        let holds = closure-true formula (decisions (a .trail)) b s w quiet in-b in
-        let both = conflict-both-ways formula s a v .0 e in
-        absurd (not-both formula s b w (both .0) (holds _ (both .1)) (holds _ (both .2)))
+true-decisions-conflict formula a b s v w in-b e =
+    both-ways-conflict formula s b w (decisions (a .trail)) in-b (conflict-both-ways formula s a v .0 e)
 
 -- Both hold where the same decisions are in force, in any order.
 pub same-decisions-agree : (formula : Formula) (a b : Run) → sound formula ≡ true → Valid formula a → Valid formula b

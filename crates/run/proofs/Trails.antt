@@ -11,7 +11,7 @@ use lib.ListN.{length}
 use Rattle.base.specs.Lists.{member, distinct}
 use Rattle.base.proofs.Bools.{and-parts, alike, either, never}
 use Rattle.book.specs.Formula.{variableOf}
-use Rattle.run.specs.Trail.{Entry, opposite, place, literalAt, isTrue, variablesOn}
+use Rattle.run.specs.Trail.{Entry, opposite, place, literalAt, isTrue, isFalse, variablesOn}
 use Rattle.run.proofs.Opposites.{opposite-other, opposite-variable, same-variable}
 
 -- true literals are those with a place
@@ -131,7 +131,7 @@ pub newest-apart : (e : Entry) (trail : List Entry) (l : ℕ) → distinct (vari
     → variableOf l ≡ variableOf (e .literal) → ⊥
 newest-apart e trail l d h s = never (on-trail trail l h) (rw s (newest-once e trail d))
 
--- on a trail without a variable twice a true literal is not false
+-- on a trail without a variable twice the opposite of a literal on it is not there, so a true literal is not false
 pub consistent : (trail : List Entry) (l : ℕ) → distinct (variablesOn trail) ≡ true → 0 < place trail l → place trail (opposite l) ≡ 0
 unfolding place
 consistent [] l d h = refl
@@ -152,6 +152,9 @@ consistent (e ∷ trail) l d h =
     go (inr a) (inl b) rest =
         absurd (newest-apart e trail l d (omega arith) (sym (opposite-variable l) ∙ ap variableOf (sym (b .0))))
     go (inr a) (inr b) rest = b .1 ∙ rest (omega arith)
+
+pub true-unfalse : (trail : List Entry) → distinct (variablesOn trail) ≡ true → (l : ℕ) → isTrue trail l ≡ true → isFalse trail l ≡ false
+true-unfalse trail d l t = place-untrue trail (opposite l) (consistent trail l d (true-place trail l t))
 
 -- the literal at a place has that place
 pub place-of-literal : (trail : List Entry) (h : ℕ) → distinct (variablesOn trail) ≡ true → h < length trail

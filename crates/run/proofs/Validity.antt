@@ -5,7 +5,7 @@ use mathlib.Core.Bool.{Bool, true, false, cond, _&&_}
 use mathlib.Core.List.{List, [], _∷_}
 use mathlib.Core.Logic.{_⊎_, inl, inr, ⊎-elim}
 use mathlib.Core.Path.{_≡_, refl, sym, _∙_}
-use borrow.Author.Tests.{eqb-true, eq-eqb, le-leb, leb-true, leb-false, not-false}
+use borrow.Author.Tests.{eq-eqb, le-leb, leb-true, leb-false}
 use lib.Dec.{leb, eqb}
 use lib.ListN.{length, length-map, length-drop}
 use Rattle.base.specs.Lists.{distinct, times}
@@ -21,7 +21,7 @@ use Rattle.run.specs.Valid.{one, Justified, Fixpoint, Valid}
 use Rattle.run.specs.Progress.{secondLiteral, firstLiteral, among, Guard, BothGuarded, Pending, Trailed, Going, Ended, ReadingList}
 use Rattle.run.proofs.Trails.{untrue-place, place-of-literal, place-injective, variable-on, place-true}
 use Rattle.run.proofs.Inductions.{read-induction, nextRead, readNext, propagate-induction, enough-fuel}
-use Rattle.run.proofs.Propagation.{pending-push, pending-lowered, unfixed, valid-structure, quiet-out, going-valid, trailed-push}
+use Rattle.run.proofs.Propagation.{pending-push, pending-lowered, unfixed, valid-structure, quiet-out, out-quiet, going-valid, trailed-push}
 use Rattle.run.proofs.Visits.{visit-outcome}
 use Rattle.run.proofs.Opposites.{opposite-opposite, opposite-injective}
 use Rattle.run.proofs.Levels.{Suffix, whole, newer, suffix-distinct, lowered-cases, lowered-suffix, lowered-count, suffix-true, cut-suffix, cut-decisions, decided-count}
@@ -150,7 +150,7 @@ decision-accepted formula l run z = go (literalWithin (formula .variables) l) re
     go true p false q false r z =
         record {
           literal-within = p;
-          quiet = eqb-true (run .conflict) 0 (not-false (eqb (run .conflict) 0) q);
+          quiet = out-quiet run q;
           untrue = neither-left (isTrue (run .trail) l) (isFalse (run .trail) l) r;
           unfalse = neither-right (isTrue (run .trail) l) (isFalse (run .trail) l) r;
         }
@@ -288,7 +288,7 @@ fix-accepted f run z = go (inConflict run) refl (leb (run .fixed) f && leb f (le
     go : (c : Bool) → inConflict run ≡ c → (w : Bool) → (leb (run .fixed) f && leb f (length (decisions (run .trail)))) ≡ w
         → _≡_ {A = ℕ} (cond c 14 (cond w 0 22)) 0 → (run .conflict ≡ 0) × (run .fixed ≤ f) × (f ≤ length (decisions (run .trail)))
     go false q true p z = (
-      eqb-true (run .conflict) 0 (not-false (eqb (run .conflict) 0) q),
+      out-quiet run q,
       leb-true (run .fixed) f (and-parts (leb (run .fixed) f) (leb f (length (decisions (run .trail)))) p .0),
       leb-true f (length (decisions (run .trail))) (and-parts (leb (run .fixed) f) (leb f (length (decisions (run .trail)))) p .1),
     )

@@ -10,9 +10,9 @@ use lib.Dec.{leb, eqb}
 use Rattle.base.proofs.Bools.{never, and-parts}
 use Rattle.book.specs.Formula.{positive, negative}
 use Rattle.book.specs.Numbers.{wellFormed, formulaOf, variablesOf}
-use Rattle.run.specs.Trail.{Entry, place, isTrue, isAssigned, level}
+use Rattle.run.specs.Trail.{Entry, isTrue, isAssigned, level}
 use Rattle.run.proofs.Opposites.{opposite-positive}
-use Rattle.run.proofs.Trails.{true-place, place-untrue, consistent}
+use Rattle.run.proofs.Trails.{true-unfalse}
 use Rattle.layout.specs.Layout.{held}
 use Rattle.validation.specs.Validation.{passes, callRefusal, readRefusal}
 use Rattle.session.specs.Outcomes.{lookupRefusal, lookupAnswer}
@@ -27,8 +27,7 @@ module _ (book session : List ℕ) where
   -- a variable is not true both ways
   pub not-both : 0 ≡ readRefusal book session → (v : ℕ) → isTrue trail (positive v) ≡ true → isTrue trail (negative v) ≡ true → ⊥
   not-both none v t f =
-      let absent = consistent trail (positive v) (facts book session none .0 .trail-distinct) (true-place trail (positive v) t) in
-      never f (place-untrue trail (negative v) (ap (place trail) (sym (opposite-positive v)) ∙ absent))
+      never f (ap (isTrue trail) (sym (opposite-positive v)) ∙ true-unfalse trail (facts book session none .0 .trail-distinct) (positive v) t)
 
   module _ (none : 0 ≡ readRefusal book session) (v : ℕ) (low : 1 ≤ v) (high : v ≤ variablesOf book) where
     pub shows-positive : (n : ℕ) → (lookupAnswer book session v ≡ Positive n) ↔ ((isTrue trail (positive v) ≡ true) × (level trail (positive v) ≡ n))

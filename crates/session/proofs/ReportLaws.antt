@@ -5,8 +5,7 @@ use mathlib.Core.Bool.{Bool, true, false, cond}
 use mathlib.Core.List.{List, [], _∷_}
 use mathlib.Core.Logic.{_↔_, _⊎_, inl, inr, ⊎-elim}
 use mathlib.Core.Path.{_≡_, refl, sym, ap, _∙_}
-use borrow.Author.Tests.{eqb-true, eq-eqb, not-false}
-use lib.Dec.{eqb}
+use borrow.Author.Tests.{eq-eqb}
 use lib.ListN.{length, getD, length-drop}
 use lib.Seq.{getD-drop}
 use Rattle.base.specs.Lists.{member, distinct, table}
@@ -21,6 +20,7 @@ use Rattle.run.specs.Calls.{decideRefusal}
 use Rattle.run.specs.Closure.{Closure, BothWays}
 use Rattle.run.specs.Valid.{Valid}
 use Rattle.run.proofs.Trails.{true-place, place-true, true-grows, place-new, place-cases, place-within, place-of-literal}
+use Rattle.run.proofs.Propagation.{out-quiet}
 use Rattle.run.proofs.Validity.{decision-accepted}
 use Rattle.run.proofs.Theorems.{open-valid, decide-valid, assigned-is-closure, conflict-is-both-ways, open-undecided, decide-decisions, decide-longer, decide-gains}
 use Rattle.layout.proofs.TrailLaws.{at-place}
@@ -77,9 +77,6 @@ module _ (book : List ℕ) (s : sound (formulaOf book) ≡ true) (run : Run) (va
   both-ways : (inConflict run ≡ true) ↔ BothWays (Closure formula ds)
   both-ways = rw (← in-force) (conflict-is-both-ways formula run s valid)
 
-  quiet : inConflict run ≡ false → run .conflict ≡ 0
-  quiet e = eqb-true (run .conflict) 0 (not-false (eqb (run .conflict) 0) e)
-
   loud : (name : ℕ) → propagatedAnswer before run ≡ Conflict name → (inConflict run ≡ true) × (run .conflict ≡ name)
   unfolding propagatedAnswer
   loud name e = go (inConflict run) refl e
@@ -130,7 +127,7 @@ module _ (book : List ℕ) (s : sound (formulaOf book) ≡ true) (run : Run) (va
       )
         where
           closed : inConflict run ≡ false → (l : ℕ) → (isTrue (run .trail) l ≡ true) ↔ Closure formula ds l
-          closed e l = rw (← in-force) (assigned-is-closure formula run s valid (quiet e) l)
+          closed e l = rw (← in-force) (assigned-is-closure formula run s valid (out-quiet run e) l)
 
 module _ (book : List ℕ) (s : sound (formulaOf book) ≡ true) where
   pub open-run-reported : Reported (formulaOf book) [] (λ l. ⊥) (openRun (formulaOf book)) (propagatedAnswer 0 (openRun (formulaOf book)))

@@ -5,7 +5,6 @@ use mathlib.Core.Bool.{Bool, true, false, cond}
 use mathlib.Core.List.{List, [], _∷_}
 use native.Mathlib.Omega.{arith}
 use lib.ListN.{length}
-use Rattle.base.proofs.Bools.{never}
 use Rattle.base.specs.Lists.{member, sum}
 use Rattle.book.specs.Formula.{positive, negative}
 use Rattle.book.specs.Numbers.{wellFormed, formulaOf, variablesOf, clausesOf}
