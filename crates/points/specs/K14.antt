@@ -1,15 +1,17 @@
--- Points of request K14, evaluated: the same choices in other orders and after other take-backs, one settled already, and in contradiction.
+-- Points of request K14, evaluated: the same choices in other orders and after other take-backs, one settled already, and in contradiction; and which sentences
+-- they refute: that levels are alike, too, and lookups in contradiction.
 use Prim.Native.Nat.{ℕ}
-use mathlib.Core.Path.{_≡_, refl}
+use native.Mathlib.Omega.{arith}
+use mathlib.Core.Path.{_≡_, refl, sym, ap, _∙_}
 use mathlib.Core.Bool.{Bool, true, false, _||_}
 use mathlib.Core.List.{List, [], _∷_}
 use lib.Dec.{eqb}
 use Rattle.base.specs.Lists.{all, any, keep, flat, member, distinct, same, times, table, upTo, without}
 use Rattle.book.specs.Formula.{Formula, positive, negative, literalWithin, soundClause, sound}
-use Rattle.book.specs.Numbers.{starts, numbersOf, clausesFrom, rising, wellFormed}
+use Rattle.book.specs.Numbers.{starts, numbersOf, formulaOf, clausesFrom, rising, wellFormed}
 use Rattle.run.specs.Trail.{opposite, place, literalAt, isTrue, decisions, level, lowered, cut}
 use Rattle.run.specs.Scan.{watched, next, oneMore, scanFrom, scan}
-use Rattle.run.specs.Run.{pushFront, takeOut, addChecks, otherWatch, moved, scannedAction, action, onTrail, withWatches, withConflict, counted, performAction, visit, readList, propagateFrom, firstCell, watchAll, fresh, assignUnit, assignUnits, openRun, decide, backtrack, fix}
+use Rattle.run.specs.Run.{Run, inConflict, pushFront, takeOut, addChecks, otherWatch, moved, scannedAction, action, onTrail, withWatches, withConflict, counted, performAction, visit, readList, propagateFrom, firstCell, watchAll, fresh, assignUnit, assignUnits, openRun, decide, backtrack, fix}
 use Rattle.run.specs.Calls.{Call, decision, backtrackBy, fixBy, decideRefusal, backtrackRefusal, fixRefusal, refusal, performCall, step, stepAll, reference}
 use Rattle.layout.specs.Layout.{valueNumber, levelNumber, nodeOf, watchLiteral, firstNode, behind, headNumber, linkNumber, watchNumber, encode, levelBefore, heldTrail, heldCells, chainFrom, heldLists, held}
 use Rattle.validation.specs.Validation.{hasReason, isJustified, isWatching, isGuarded, watchesHold, isFixpoint, isConflict, isListed, isValid, passes, callRefusal, readRefusal}
@@ -48,6 +50,10 @@ otherOrder = decision (positive 2) ∷ decision (positive 1) ∷ []
 abbrev session : Formula → List Call → List ℕ
 session formula calls = encode formula (reference formula calls)
 
+-- the run that it holds
+abbrev heldRun : Formula → List Call → Run
+heldRun formula calls = held (formulaOf (numbersOf formula)) (session formula calls)
+
 swapped : (p q : Bool) → (p || (q || false)) ≡ (q || (p || false))
 swapped true true = refl
 swapped true false = refl
@@ -65,7 +71,9 @@ pub record Points : Type 0 where
   pub other-backtracks : reference implying otherAgent .backtracks ≡ 2
   pub one-fixed : reference implying oneAgent .fixed ≡ 0
   pub other-fixed : reference implying otherAgent .fixed ≡ 1
-  -- The features are settled alike, at other levels.
+  -- Neither is in contradiction, and the features are settled alike, at other levels.
+  pub one-quiet : inConflict (heldRun implying oneAgent) ≡ false
+  pub other-quiet : inConflict (heldRun implying otherAgent) ≡ false
   pub one-1 : shown implying oneAgent 1 ≡ Positive 1
   pub one-2 : shown implying oneAgent 2 ≡ Positive 2
   pub one-3 : shown implying oneAgent 3 ≡ Positive 1
@@ -90,8 +98,8 @@ pub record Points : Type 0 where
   pub one-contradicts : readRefusal (numbersOf opposing) (session opposing oneAgent) ≡ 0
   pub other-contradicts : readRefusal (numbersOf opposing) (session opposing otherOrder) ≡ 0
   pub contradicting-decisions : SameDecisions (numbersOf opposing) (session opposing oneAgent) (session opposing otherOrder)
-  pub one-conflict : reference opposing oneAgent .conflict ≡ 2
-  pub other-conflict : reference opposing otherOrder .conflict ≡ 1
+  pub one-conflict : heldRun opposing oneAgent .conflict ≡ 2
+  pub other-conflict : heldRun opposing otherOrder .conflict ≡ 1
   pub one-in-conflict : shown opposing oneAgent 3 ≡ Positive 2
   pub other-in-conflict : shown opposing otherOrder 3 ≡ Negative 2
 
@@ -108,6 +116,8 @@ points =
       other-backtracks = refl;
       one-fixed = refl;
       other-fixed = refl;
+      one-quiet = refl;
+      other-quiet = refl;
       one-1 = refl;
       one-2 = refl;
       one-3 = refl;
@@ -135,3 +145,24 @@ points =
       one-in-conflict = refl;
       other-in-conflict = refl;
     }
+
+-- `two-agents` with another end: what would hold of two sessions on one book that pass and hold the same decisions
+abbrev Claim : (List ℕ → List ℕ → List ℕ → Type 0) → Type 0
+Claim Claimed = (book a b : List ℕ) → readRefusal book a ≡ 0 → readRefusal book b ≡ 0 → SameDecisions book a b → Claimed book a b
+
+-- It is false that out of conflict the levels are alike, too,
+pub levels-refuted : Claim (λ book a b. inConflict (held (formulaOf book) a) ≡ false → (v : ℕ) → lookupAnswer book a v ≡ lookupAnswer book b v) → ⊥
+levels-refuted claim =
+    let alike = claim (numbersOf implying) (session implying oneAgent) (session implying otherAgent) (points .one-passes) (points .other-passes) (points .same-decisions) in
+    let levels : Positive 1 ≡ Positive 2 = sym (points .one-1) ∙ alike (points .one-quiet) 1 ∙ points .other-1 in
+    let z : _≡_ {A = ℕ} 1 2 = cc in absurd (omega arith)
+
+-- and that in conflict lookups are alike but for the level.
+pub conflict-refuted : Claim (λ book a b. inConflict (held (formulaOf book) a) ≡ inConflict (held (formulaOf book) b)
+    → (v : ℕ) → unlevelled (lookupAnswer book a v) ≡ unlevelled (lookupAnswer book b v)) → ⊥
+unfolding unlevelled
+conflict-refuted claim =
+    let alike = claim (numbersOf opposing) (session opposing oneAgent) (session opposing otherOrder) (points .one-contradicts) (points .other-contradicts) (points .contradicting-decisions) in
+    let both-in : inConflict (heldRun opposing oneAgent) ≡ inConflict (heldRun opposing otherOrder) = rw (points .one-conflict, points .other-conflict) in
+    let signs : Positive 0 ≡ Negative 0 = sym (ap unlevelled (points .one-in-conflict)) ∙ alike both-in 3 ∙ ap unlevelled (points .other-in-conflict) in
+    let z : _≡_ {A = ℕ} 0 1 = cc in absurd (omega arith)
