@@ -15,7 +15,7 @@ use Rattle.run.specs.Run.{Run, inConflict}
 use Rattle.run.specs.Calls.{Call, reference}
 use Rattle.run.specs.Valid.{Valid}
 use Rattle.run.proofs.Theorems.{same-decisions-agree, conflicting-decisions, true-decisions-agree, true-decisions-conflict}
-use Rattle.run.proofs.Propagation.{out-quiet}
+use Rattle.run.proofs.Conflicts.{out-quiet}
 use Rattle.run.proofs.ClosureLaws.{decisions-true}
 use Rattle.layout.specs.Layout.{held}
 use Rattle.validation.specs.Validation.{callRefusal, readRefusal}
@@ -121,7 +121,7 @@ two-lists book lentA lentB callsA callsB e f same =
     passing {numbers = numbers} statement = sym (read-none book numbers (statement .book-passes) (statement .session-passes))
 
 -- A copy of the book, with other numbers behind it: well-formed numbers that hold the same formula. On either a session is refused alike and holds the same
--- run, and every lookup answers the same, the level included; so each theorem above holds of agents with a copy each.
+-- run, and every lookup answers the same, the level included; so each theorem above on two sessions that pass holds of agents with a copy each.
 pub another-copy : (book copy session : List ℕ) → wellFormed book ≡ true → wellFormed copy ≡ true → formulaOf book ≡ formulaOf copy
     → (readRefusal book session ≡ readRefusal copy session)
     × (held (formulaOf book) session ≡ held (formulaOf copy) session)
@@ -133,7 +133,7 @@ another-copy book copy session ok well-copied same = (
   λ v. rw (ok, well-copied, same, ap (λ (f : Formula). f .variables) same),
 )
 
--- The first of them: b is on the copy.
+-- `two-agents` with a on the book and b on its copy.
 pub two-copies : (book copy a b : List ℕ) → formulaOf book ≡ formulaOf copy → readRefusal book a ≡ 0 → readRefusal copy b ≡ 0 → SameDecisions book a b
     → Agreement book a b × ((v : ℕ) → lookupAnswer book b v ≡ lookupAnswer copy b v)
 two-copies book copy a b one-book e f same =

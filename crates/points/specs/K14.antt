@@ -150,14 +150,15 @@ points =
 abbrev Claim : (List ℕ → List ℕ → List ℕ → Type 0) → Type 0
 Claim Claimed = (book a b : List ℕ) → readRefusal book a ≡ 0 → readRefusal book b ≡ 0 → SameDecisions book a b → Claimed book a b
 
--- It is false that out of conflict the levels are alike, too,
-pub levels-refuted : Claim (λ book a b. inConflict (held (formulaOf book) a) ≡ false → (v : ℕ) → lookupAnswer book a v ≡ lookupAnswer book b v) → ⊥
+-- It is false that out of conflict positive variables have the same level,
+pub levels-refuted : Claim (λ book a b. inConflict (held (formulaOf book) a) ≡ false
+    → (v m n : ℕ) → lookupAnswer book a v ≡ Positive m → lookupAnswer book b v ≡ Positive n → m ≡ n) → ⊥
 levels-refuted claim =
     let alike = claim (numbersOf implying) (session implying oneAgent) (session implying otherAgent) (points .one-passes) (points .other-passes) (points .same-decisions) in
-    let levels : Positive 1 ≡ Positive 2 = sym (points .one-1) ∙ alike (points .one-quiet) 1 ∙ points .other-1 in
-    let z : _≡_ {A = ℕ} 1 2 = cc in absurd (omega arith)
+    let levels : _≡_ {A = ℕ} 1 2 = alike (points .one-quiet) 1 1 2 (points .one-1) (points .other-1) in
+    absurd (omega arith)
 
--- and that in conflict lookups are alike but for the level.
+-- and that lookups are alike but for the level wherever both are in conflict or neither is.
 pub conflict-refuted : Claim (λ book a b. inConflict (held (formulaOf book) a) ≡ inConflict (held (formulaOf book) b)
     → (v : ℕ) → unlevelled (lookupAnswer book a v) ≡ unlevelled (lookupAnswer book b v)) → ⊥
 unfolding unlevelled

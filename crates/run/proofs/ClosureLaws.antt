@@ -17,8 +17,8 @@ use Rattle.run.specs.Run.{Run, clauseOf, size, cellOf, inConflict}
 use Rattle.run.specs.Valid.{Justified, WatchesHold, firstWatch, secondWatch, Watching, Valid}
 use Rattle.run.specs.Closure.{Closure, Closure.decided as in-force, Closure.implied as by-clause, UnitClosed, Contains, BothWays}
 use Rattle.run.proofs.Trails.{PlaceCase, true-place, place-true, place-new, place-cases, true-grows, true-unfalse}
+use Rattle.run.proofs.Conflicts.{quiet-out, out-quiet}
 use Rattle.run.proofs.WatchLists.{literals-differ}
-use Rattle.run.proofs.Propagation.{out-quiet}
 
 -- the closure is contained in every set that holds the decisions and is closed under the unit rule
 pub closure-within : {formula : Formula} {ds : List ℕ} (S : ℕ → Type 0) → Contains ds S → UnitClosed formula S → {l : ℕ}
@@ -175,7 +175,7 @@ module _ (formula : Formula) (s : sound formula ≡ true) (run : Run) (v : Valid
       ds = decisions (run .trail)
 
       forth : (name : ℕ) → run .conflict ≡ name → inConflict run ≡ true → BothWays (Closure formula ds)
-      forth zero q e = absurd (never e (rw (eq-eqb (run .conflict) 0 q)))
+      forth zero q e = absurd (never e (quiet-out run q))
       forth (suc c) q e =
           let r = v .conflict-false c q in
           let l : ℕ = getD (clauseOf formula c) 0 0 in

@@ -20,7 +20,7 @@ use Rattle.run.proofs.Inductions.{read-induction, nextRead, readNext}
 use Rattle.run.proofs.Validity.{backtrack-accepted, fix-accepted}
 use Rattle.run.proofs.Levels.{cut-decisions}
 use Rattle.run.proofs.Theorems.{open-valid, by-number, step-valid, step-refused, open-undecided, decide-decisions}
-use Rattle.run.proofs.Propagation.{quiet-out}
+use Rattle.run.proofs.Conflicts.{quiet-out}
 
 visit-fixed : (formula : Formula) (q c : ℕ) (run : Run) → visit formula q c run .fixed ≡ run .fixed
 unfolding visit performAction counted withWatches onTrail withConflict

@@ -4,6 +4,7 @@ pub mod ScanLaws
 pub mod Opposites
 pub mod Trails
 pub mod Levels
+pub mod Conflicts
 pub mod Clauses
 pub mod Order
 pub mod WatchLists

@@ -22,7 +22,8 @@ use Rattle.run.specs.Progress.{Opened, secondLiteral, firstLiteral, Watc
 use Rattle.run.proofs.Trails.{true-place, untrue-place, place-new}
 use Rattle.run.proofs.Order.{pushed-first, pushed-elsewhere, pushed-length}
 use Rattle.run.proofs.Clauses.{clause-exists, literal-within, literal-listed}
-use Rattle.run.proofs.Propagation.{old-stays, structure-valid, quiet-out, trailed-push}
+use Rattle.run.proofs.Conflicts.{quiet-out}
+use Rattle.run.proofs.Propagation.{old-stays, structure-valid, trailed-push}
 use Rattle.run.proofs.Levels.{level-within, undecided-lowered, decided-count}
 
 -- how often clause d stands in the list of l after clause c was put at the front of the list of a

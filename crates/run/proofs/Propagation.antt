@@ -5,8 +5,6 @@ use mathlib.Core.Bool.{true, false, not}
 use mathlib.Core.List.{List, _∷_}
 use mathlib.Core.Logic.{_⊎_, inl, inr, ⊎-elim}
 use mathlib.Core.Path.{_≡_, sym, _∙_, ap}
-use borrow.Author.Tests.{eqb-true, eq-eqb, not-false}
-use lib.Dec.{eqb}
 use lib.ListN.{length, getD, length-set}
 use Rattle.base.specs.Lists.{member, distinct}
 use Rattle.base.proofs.Bools.{true-or-false, both}
@@ -14,7 +12,7 @@ use Rattle.base.proofs.Lists.{getD-set-cases}
 use Rattle.book.specs.Formula.{Formula, literalWithin}
 use Rattle.run.specs.Trail.{Entry, opposite, place, isFalse, decisions, level, lowered, variablesOn}
 use Rattle.run.specs.Scan.{Cell}
-use Rattle.run.specs.Run.{Run, clauseOf, size, maxCount, inConflict, addChecks}
+use Rattle.run.specs.Run.{Run, clauseOf, size, maxCount, addChecks}
 use Rattle.run.specs.Valid.{Guarded, WatchesHold, Fixpoint, Valid, Reason}
 use Rattle.run.specs.Progress.{Guard, BothGuarded, Pending, Trailed, Counted, Structure, Going}
 use Rattle.run.proofs.Trails.{PlaceCase, true-place, place-true, untrue-place, place-cases, place-within, true-unfalse, off-trail}
@@ -218,12 +216,6 @@ structure-valid s fixpoint conflict-false fixpoint-below =
       conflict-false = conflict-false;
       fixpoint-below = fixpoint-below;
     }
-
-pub quiet-out : (run : Run) → run .conflict ≡ 0 → inConflict run ≡ false
-quiet-out run e = rw (eq-eqb (run .conflict) 0 e)
-
-pub out-quiet : (run : Run) → inConflict run ≡ false → run .conflict ≡ 0
-out-quiet run e = eqb-true (run .conflict) 0 (not-false (eqb (run .conflict) 0) e)
 
 -- all handled is valid
 pub going-valid : {formula : Formula} {handled : ℕ} {run : Run} → Going formula handled run → length (run .trail) ≤ handled

@@ -17,7 +17,7 @@ use Rattle.run.specs.Valid.{Valid}
 use Rattle.run.specs.Ceiling.{checksOf, countAtLatest, countBefore}
 use Rattle.run.specs.Progress.{Structure, Going, Ended, ReadingList}
 use Rattle.run.proofs.Inductions.{read-induction, nextRead, readNext, propagate-induction}
-use Rattle.run.proofs.Propagation.{quiet-out}
+use Rattle.run.proofs.Conflicts.{quiet-out}
 use Rattle.run.proofs.Visits.{Seen, seen, visit-outcome}
 use Rattle.run.proofs.Validity.{reading-begins, reading-ends, short, decision-accepted, decision-going}
 use Rattle.run.proofs.Opening.{opening-state}

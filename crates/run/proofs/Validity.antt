@@ -21,7 +21,8 @@ use Rattle.run.specs.Valid.{one, Justified, Fixpoint, Valid}
 use Rattle.run.specs.Progress.{secondLiteral, firstLiteral, among, Guard, BothGuarded, Pending, Trailed, Going, Ended, ReadingList}
 use Rattle.run.proofs.Trails.{untrue-place, place-of-literal, place-injective, variable-on, place-true}
 use Rattle.run.proofs.Inductions.{read-induction, nextRead, readNext, propagate-induction, enough-fuel}
-use Rattle.run.proofs.Propagation.{pending-push, pending-lowered, unfixed, valid-structure, quiet-out, out-quiet, going-valid, trailed-push}
+use Rattle.run.proofs.Conflicts.{quiet-out, out-quiet}
+use Rattle.run.proofs.Propagation.{pending-push, pending-lowered, unfixed, valid-structure, going-valid, trailed-push}
 use Rattle.run.proofs.Visits.{visit-outcome}
 use Rattle.run.proofs.Opposites.{opposite-opposite, opposite-injective}
 use Rattle.run.proofs.Levels.{Suffix, whole, newer, suffix-distinct, lowered-cases, lowered-suffix, lowered-count, suffix-true, cut-suffix, cut-decisions, decided-count}

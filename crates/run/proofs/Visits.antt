@@ -19,7 +19,7 @@ use Rattle.run.specs.Run.{Run, clauseOf, size, cellOf, listOf, pushFront
 use Rattle.run.specs.Valid.{Reason, Watching}
 use Rattle.run.specs.Progress.{Watched, BothGuardedAt, BothGuarded, Ended, ReadingList}
 use Rattle.run.proofs.ScanLaws.{pointer-within, scan-found, scan-none}
-use Rattle.run.proofs.Trails.{true-place, place-true, untrue-place, place-untrue, place-new, place-old, place-within, place-injective, consistent}
+use Rattle.run.proofs.Trails.{true-place, place-true, untrue-place, place-new, place-old, place-within, place-injective, consistent, true-unfalse}
 use Rattle.run.proofs.Clauses.{literal-within}
 use Rattle.run.proofs.Actions.{Case, staying, moving, implying, conflicting, action-case}
 use Rattle.run.proofs.WatchLists.{Sides, Order, forth, back, apart-unwatched, listed-size, listed-sides, listed-once, sides-differ, moved-times, moved-watched, cell-after, cell-others}
@@ -59,8 +59,7 @@ seen {formula} {handled} {q} {c} {unread} {run} r =
       sides = listed-sides w q c there;
       q-false = place-true (run .trail) (opposite q) on;
       q-untrue =
-          place-untrue (run .trail) q
-          (rw (opposite-opposite q) at (consistent (run .trail) (opposite q) (r .going .structure .trailed .once) on));
+          rw (opposite-opposite q) at (true-unfalse (run .trail) (r .going .structure .trailed .once) (opposite q) (place-true (run .trail) (opposite q) on));
     }
   where
     w : Watched formula (run .cells) (run .lists)

@@ -10,7 +10,7 @@ use mathlib.Core.Bool.{and-false, Bool, true, false, cond, _&&_, _||_}
 use mathlib.Core.List.{List}
 use mathlib.Core.Logic.{_⊎_, inl, inr, ⊎-elim}
 use native.Mathlib.Omega.{arith}
-use borrow.Author.Tests.{eq-eqb, ne-eqb, le-leb, lt-leb}
+use borrow.Author.Tests.{ne-eqb, le-leb, lt-leb}
 use lib.Dec.{leb}
 use lib.ListN.{length, getD}
 use Rattle.book.specs.Numbers.{formulaOf, variablesOf, clausesOf}
@@ -18,6 +18,7 @@ use Rattle.book.proofs.WellFormedLaws.{well-formed-sound}
 use Rattle.run.specs.Trail.{Entry, isTrue, isFalse, decisions, level}
 use Rattle.run.specs.Run.{Run, decide, backtrack}
 use Rattle.run.specs.Calls.{decideRefusal, backtrackRefusal, maxBacktracks}
+use Rattle.run.proofs.Conflicts.{quiet-out}
 use Rattle.run.proofs.Theorems.{decide-valid, backtrack-valid, decide-longer}
 use Rattle.run.proofs.Fixed.{none-or-over-16}
 use Rattle.validation.specs.Validation.{readRefusal}
@@ -69,7 +70,7 @@ module _ (book session : List ℕ) where
         unfolding sessionDecideRefusal decideRefusal
         by-value t f p q =
             own-refusal book session none (decideRefusal (formulaOf book) l)
-            ∙ rw (inside, eq-eqb (held (formulaOf book) session .conflict) 0 (sym (conflict-is book session none) ∙ quiet), p, q)
+            ∙ rw (inside, quiet-out (held (formulaOf book) session) (sym (conflict-is book session none) ∙ quiet), p, q)
 
         pub decision-open : value.Open ≡ valueIn (held (formulaOf book) session .trail) l → 0 ≡ sessionDecideRefusal book session l
         decision-open e = let none-true = value-open (held (formulaOf book) session .trail) l (sym e) in sym (by-value false false (none-true .0) (none-true .1))

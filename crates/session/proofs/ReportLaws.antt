@@ -5,7 +5,6 @@ use mathlib.Core.Bool.{Bool, true, false, cond}
 use mathlib.Core.List.{List, [], _∷_}
 use mathlib.Core.Logic.{_↔_, _⊎_, inl, inr, ⊎-elim}
 use mathlib.Core.Path.{_≡_, refl, sym, ap, _∙_}
-use borrow.Author.Tests.{eq-eqb}
 use lib.ListN.{length, getD, length-drop}
 use lib.Seq.{getD-drop}
 use Rattle.base.specs.Lists.{member, distinct, table}
@@ -20,7 +19,7 @@ use Rattle.run.specs.Calls.{decideRefusal}
 use Rattle.run.specs.Closure.{Closure, BothWays}
 use Rattle.run.specs.Valid.{Valid}
 use Rattle.run.proofs.Trails.{true-place, place-true, true-grows, place-new, place-cases, place-within, place-of-literal}
-use Rattle.run.proofs.Propagation.{out-quiet}
+use Rattle.run.proofs.Conflicts.{quiet-out, out-quiet}
 use Rattle.run.proofs.Validity.{decision-accepted}
 use Rattle.run.proofs.Theorems.{open-valid, decide-valid, assigned-is-closure, conflict-is-both-ways, open-undecided, decide-decisions, decide-longer, decide-gains}
 use Rattle.layout.proofs.TrailLaws.{at-place}
@@ -104,7 +103,7 @@ module _ (book : List ℕ) (s : sound (formulaOf book) ≡ true) (run : Run) (va
     where
       by-name : (name : ℕ) → run .conflict ≡ name → (k : ℕ) → run .conflict ≡ k → inConflict run ≡ true
           → (c : ℕ) × (name ≡ suc c) × (0 < size formula c) × ((m : ℕ) → member m (clauseOf formula c) ≡ true → isFalse (run .trail) m ≡ true)
-      by-name name e zero q l = absurd (never l (rw (eq-eqb (run .conflict) 0 q)))
+      by-name name e zero q l = absurd (never l (quiet-out run q))
       by-name name e (suc c) q l = let f = valid .conflict-false c q in (c, sym e ∙ q, f .0, f .1)
 
       same-place : length (run .trail) - (length (run .trail) - before) ≡ before

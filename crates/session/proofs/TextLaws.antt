@@ -5,7 +5,6 @@ use mathlib.Core.Bool.{true, false}
 use mathlib.Core.List.{List, [], _∷_}
 use mathlib.Core.Logic.{_↔_, _⊎_, inl, inr}
 use mathlib.Core.Path.{_≡_, sym, ap, subst, _∙_}
-use borrow.Author.Tests.{eq-eqb}
 use lib.ListN.{length}
 use Rattle.base.proofs.Bools.{never, true-or-false, below}
 use Rattle.book.specs.Formula.{Formula, positive, negative}
@@ -18,6 +17,7 @@ use Rattle.run.specs.Trail.{decisions}
 use Rattle.run.specs.Run.{Run, inConflict}
 use Rattle.run.specs.Calls.{oldestDecisions}
 use Rattle.run.specs.Closure.{Closure, BothWays, Since}
+use Rattle.run.proofs.Conflicts.{quiet-out}
 use Rattle.run.proofs.AsWritten.{read-closure-written, closure-as-written}
 use Rattle.layout.specs.Layout.{held}
 use Rattle.run.proofs.Since.{older-consistent}
@@ -120,7 +120,7 @@ module _ (text buffer : List ℕ) (formula : Formula) (h : readText text ≡ acc
     text-closure-written quiet v low high =
         let shown = text-closure quiet v low high in
         let none : BothWays (Closure formula (decisions (run .trail))) → ⊥
-        = λ both. never (text-conflict .1 both) (rw (eq-eqb (run .conflict) 0 quiet)) in
+        = λ both. never (text-conflict .1 both) (quiet-out run quiet) in
         let p = same-closure (decisions (run .trail)) none (positive v) in
         let n = same-closure (decisions (run .trail)) none (negative v) in (
           (λ a. p .0 (shown .0 .0 a), λ k. shown .0 .1 (p .1 k)),
@@ -137,7 +137,7 @@ module _ (text buffer : List ℕ) (formula : Formula) (h : readText text ≡ acc
         consistently known (inl fewer) both = older-consistently m fewer both
         consistently (inl quiet) (inr all) both =
             let none : length (decisions (run .trail)) - m ≡ 0 = omega arith in
-            never (text-conflict .1 (rw none at both)) (rw (eq-eqb (run .conflict) 0 quiet))
+            never (text-conflict .1 (rw none at both)) (quiet-out run quiet)
         consistently (inr fewer) (inr all) both = absurd (omega arith)
 
     pub text-since-written : (v n : ℕ)

@@ -22,7 +22,7 @@ use Rattle.run.specs.Run.{Run, clauseOf, size, onTrail, withConflict, inConflic
 use Rattle.run.proofs.Clauses.{literal-within}
 use Rattle.run.specs.Progress.{Opened}
 use Rattle.run.proofs.Opening.{fresh-opened, unit-outcome, opening-state}
-use Rattle.run.proofs.Propagation.{quiet-out}
+use Rattle.run.proofs.Conflicts.{quiet-out}
 use Rattle.layout.specs.Layout.{requiredLength, conflictAt, lengthAt, valueSlot}
 use Rattle.layout.specs.Encodes.{Encodes}
 use Rattle.layout.specs.Values.{valueRead}

@@ -19,7 +19,7 @@ use Rattle.run.specs.Run.{Run, listOf, visit, inConflict, readList, propagateFr
 use Rattle.run.proofs.Trails.{place-true, place-of-literal}
 use Rattle.run.proofs.Opposites.{opposite-cases}
 use Rattle.run.proofs.Inductions.{nextRead, readNext, propagate-stops, propagate-done}
-use Rattle.run.proofs.Propagation.{quiet-out}
+use Rattle.run.proofs.Conflicts.{quiet-out}
 use Rattle.run.specs.Progress.{Going, Ended, ReadingList}
 use Rattle.run.proofs.Visits.{visit-outcome}
 use Rattle.run.proofs.Validity.{reading-begins, reading-ends, trail-short, fuel-enough}

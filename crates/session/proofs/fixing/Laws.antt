@@ -4,13 +4,14 @@ use native.Mathlib.Omega.{arith}
 use mathlib.Core.Bool.{and-false, Bool, true, false, cond, _&&_}
 use mathlib.Core.List.{List}
 use mathlib.Core.Path.{_≡_, sym, _∙_}
-use borrow.Author.Tests.{eq-eqb, ne-eqb, le-leb, lt-leb}
+use borrow.Author.Tests.{ne-eqb, le-leb, lt-leb}
 use lib.Dec.{leb}
 use lib.ListN.{length, getD}
 use Rattle.book.specs.Numbers.{formulaOf}
 use Rattle.run.specs.Trail.{decisions}
 use Rattle.run.specs.Run.{fix}
 use Rattle.run.specs.Calls.{fixRefusal}
+use Rattle.run.proofs.Conflicts.{quiet-out}
 use Rattle.run.proofs.Theorems.{fix-valid}
 use Rattle.layout.specs.Layout.{decisionsAt, conflictAt, fixedAt, held}
 use Rattle.validation.specs.Validation.{readRefusal}
@@ -39,7 +40,7 @@ module _ (book session : List ℕ) where
       unfolding sessionFixRefusal fixRefusal
       fix-by b e =
           own-refusal book session none (fixRefusal f)
-          ∙ rw (eq-eqb (held (formulaOf book) session .conflict) 0 (sym (conflict-is book session none) ∙ quiet), e)
+          ∙ rw (quiet-out (held (formulaOf book) session) (sym (conflict-is book session none) ∙ quiet), e)
 
       pub fix-below : f < getD session fixedAt 0 → 22 ≡ sessionFixRefusal book session f
       fix-below h = sym (fix-by false (rw (lt-leb (held (formulaOf book) session .fixed) f (omega (arith, fixed-are book session none)))))
