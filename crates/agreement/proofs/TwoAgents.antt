@@ -135,7 +135,7 @@ another-copy book copy session ok well-copied same = (
 
 -- `two-agents` with a on the book and b on its copy.
 pub two-copies : (book copy a b : List ℕ) → formulaOf book ≡ formulaOf copy → readRefusal book a ≡ 0 → readRefusal copy b ≡ 0 → SameDecisions book a b
-    → Agreement book a b × ((v : ℕ) → lookupAnswer book b v ≡ lookupAnswer copy b v)
+    → Agreement book a b × (held (formulaOf book) b ≡ held (formulaOf copy) b) × ((v : ℕ) → lookupAnswer book b v ≡ lookupAnswer copy b v)
 two-copies book copy a b one-book e f same =
     let on-copy = another-copy book copy b (well book a (sym e)) (well copy b (sym f)) one-book in
-    (two-agents book a b e (on-copy .0 ∙ f) same, on-copy .2)
+    (two-agents book a b e (on-copy .0 ∙ f) same, on-copy .1, on-copy .2)
