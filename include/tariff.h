@@ -82,9 +82,9 @@ uint64_t tariff_fix(const uint32_t *book, size_t book_length, uint32_t *session,
  * Refuses: 11, 12. */
 uint64_t tariff_fixed(const uint32_t *book, size_t book_length, const uint32_t *session, size_t session_length);
 
-/* How a feature is settled and since which choice, in contradiction too. All sessions on the book with the same choices in force, in whatever order they
- * were made and whatever was taken back, have the same state of each feature, though not always the same level, or are all in contradiction, where states
- * may differ.
+/* How a feature is settled and since which choice, in contradiction too. All sessions on the book that pass the examination with the same choices in
+ * force, in whatever order they were made and whatever was taken back, have the same state of each feature, though not always the same level, or are all in
+ * contradiction, where states may differ.
  * Accepted: its state and level, which tariff_state and tariff_level take out of the answer. Writes nothing.
  * Refuses: 11, 12, 13 for a number that is no feature. */
 uint64_t tariff_lookup(const uint32_t *book, size_t book_length, const uint32_t *session, size_t session_length, uint32_t feature);

@@ -86,7 +86,7 @@ decisions-true (e ∷ trail) l h = go (e .decided) h (λ k. true-grows e trail l
         (either (eqb l (e .literal)) (member l (decisions trail)) k)
     go false k rest = rest k
 
--- out of conflict the trail of a valid run is closed under the unit rule
+-- Of a valid run: no literal is true and false,
 module _ (formula : Formula) (s : sound formula ≡ true) (run : Run) (v : Valid formula run) where
   not-both : (l : ℕ) → isTrue (run .trail) l ≡ true → isFalse (run .trail) l ≡ true → ⊥
   not-both l t f = never f (true-unfalse (run .trail) (v .trail-distinct) l t)
@@ -102,6 +102,7 @@ module _ (formula : Formula) (s : sound formula ≡ true) (run : Run) (v : Valid
   swap-holds a b (inr (inl g)) = inr (inr g)
   swap-holds a b (inr (inr g)) = inr (inl g)
 
+  -- and out of conflict the trail is closed under the unit rule.
   trail-closed : run .conflict ≡ 0 → UnitClosed formula (λ (l : ℕ). isTrue (run .trail) l ≡ true)
   trail-closed quiet c l h others = go (true-or-false (leb 2 (size formula c)))
     where
