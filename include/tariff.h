@@ -13,6 +13,9 @@ extern "C" {
 #define TARIFF_BOOK 7504
 #define TARIFF_SESSION 11505
 
+/* The chapters that rules are filed in: 0 to 31. */
+#define TARIFF_CHAPTERS 32
+
 /* An answer is its kind times 2^32, and a number. */
 #define TARIFF_ACCEPTED 0 /* the number is what the call is asked for */
 #define TARIFF_CONFLICT 1 /* the number names the rule that is contradicted, from 1 */
@@ -111,6 +114,13 @@ uint64_t tariff_checks(const uint32_t *book, size_t book_length, const uint32_t 
  * Accepted: 0. Writes the sum to *sum.
  * Refuses: 11, 12. */
 uint64_t tariff_total(const uint32_t *book, size_t book_length, const uint32_t *session, size_t session_length, uint64_t *sum);
+
+/* The checks that each chapter of rules has cost, of a chapter for each rule, rule 1 first; what lies behind these is not looked at.
+ * Accepted: 1, and writes the 32 sums to `totals`, chapter 0 first, and nothing behind them; together they are the sum of all checks. Or 0 and writes
+ * nothing: a rule's chapter is over 31, there are fewer chapters than rules, or `totals` is shorter than 32.
+ * Refuses: 11, 12. */
+uint64_t tariff_chapters(const uint32_t *book, size_t book_length, const uint32_t *session, size_t session_length,
+                         const uint32_t *chapters, size_t chapters_length, uint64_t *totals, size_t totals_length);
 
 #ifdef __cplusplus
 }

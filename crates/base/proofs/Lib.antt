@@ -10,3 +10,4 @@ pub mod ForAll
 pub mod Occurrences
 pub mod Firsts
 pub mod Tables
+pub mod Sums

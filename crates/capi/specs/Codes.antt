@@ -2,6 +2,7 @@
 use Prim.Native.Nat.{ℕ, _+_, _*_, _/_, _%_, _≤_, _<_}
 use mathlib.Core.Path.{_≡_}
 use mathlib.Core.Logic.{_⊎_}
+use mathlib.Core.Bool.{true, false}
 use mathlib.Core.List.{List, [], _∷_}
 use Rattle.base.specs.Lists.{copied}
 use Rattle.book.specs.declared.Reading.{Reading}
@@ -18,6 +19,8 @@ use Rattle.session.specs.declared.Sum.{Sum}
 use Rattle.session.specs.declared.Sum.the-variants as total
 use Rattle.session.specs.declared.Count.{Count}
 use Rattle.session.specs.declared.Count.the-variants as count
+use Rattle.chapters.specs.declared.Filing.{Filing}
+use Rattle.chapters.specs.declared.Filing.the-variants as filing
 
 abbrev pub conflictCode : ℕ → ℕ
 conflictCode clause = 4294967296 + clause
@@ -79,3 +82,9 @@ sumCode (total.Refused number) = refusalCode number
 abbrev pub sumAfter : Sum → ℕ → ℕ
 sumAfter (total.Checks checks) before = checks
 sumAfter (total.Refused number) before = before
+
+-- checks by chapter: 1 where the totals are written (true), 0 where the chapters do not fit (false), or the refusal
+abbrev pub filingCode : Filing → ℕ
+filingCode (filing.Filed true) = 1
+filingCode (filing.Filed false) = 0
+filingCode (filing.Refused number) = refusalCode number

@@ -1,11 +1,12 @@
-// The calls of book and session for C: slices as a pointer and a length, answers as one number.
+// The calls of book, session and chapters for C: slices as a pointer and a length, answers as one number.
 ghost use mathlib.Core.Path.{_≡_};
 ghost use lib.ListN.{length, set};
 ghost use Rattle.book.specs.Reading.{readText};
 ghost use Rattle.book.specs.Answer.{readAnswer, numbersAfter};
 ghost use Rattle.run.specs.Run.{trailBehind};
 ghost use Rattle.session.specs.Outcomes.{requiredAnswer, openAnswer, openNumbers, decideAnswer, decideNumbers, backtrackAnswer, backtrackNumbers, fixAnswer, fixNumbers, fixedAnswer, lookupAnswer, figuresAnswer, totalAnswer, copyAnswer, copyNumbers, checksOfRun};
-ghost use Rattle.capi.specs.Codes.{refusalCode, readingCode, answerCode, backCode, assignedCode, countCode, figuresCode, figuresAfter, sumCode, sumAfter};
+ghost use Rattle.chapters.specs.Chapters.{chapterAnswer, chapterNumbers};
+ghost use Rattle.capi.specs.Codes.{refusalCode, readingCode, answerCode, backCode, assignedCode, countCode, figuresCode, figuresAfter, sumCode, sumAfter, filingCode};
 
 fn refusal(number: u32) -> u64
     ensures { λ r. ⌜ r ≡ refusalCode number ⌝ }
@@ -62,6 +63,15 @@ fn count_code(count: session::Count) -> u64
     match count {
         session::Count::Of(n) => n as u64,
         session::Count::Refused(number) => refusal(number),
+    }
+}
+
+fn filing_code(filing: chapters::Filing) -> u64
+    ensures { λ r. ⌜ r ≡ filingCode filing ⌝ }
+{
+    match filing {
+        chapters::Filing::Filed(written) => written as u64,
+        chapters::Filing::Refused(number) => refusal(number),
     }
 }
 
@@ -202,4 +212,18 @@ pub extern "C" fn tariff_total(book: &[u32], session: &[u32], sum: &mut u64) -> 
         }
         session::Sum::Refused(number) => refusal(number),
     }
+}
+
+// Writes the checks of each chapter to `totals`, where each clause has one.
+#[no_mangle]
+pub extern "C" fn tariff_chapters(
+    book: &[u32],
+    session: &[u32],
+    chapters: &[u32],
+    totals: &mut [u64],
+) -> u64
+    ensures { λ r. ⌜ r ≡ filingCode (chapterAnswer (now (book .entry)) (now (session .entry)) (now (chapters .entry)) (length (now (totals .entry)))) ⌝ }
+    ensures { λ r. ⌜ now (totals .exit) ≡ chapterNumbers (now (book .entry)) (now (session .entry)) (now (chapters .entry)) (now (totals .entry)) ⌝ }
+{
+    filing_code(chapters::chapter_totals(book, session, chapters, totals))
 }

@@ -1,0 +1,94 @@
+-- What the copy of the counts answers, and what follows for the answer and the lent totals.
+use Prim.Native.Nat.{ℕ, _≤_}
+use mathlib.Core.Path.{_≡_, refl, sym, ap, _∙_}
+use mathlib.Core.Bool.{Bool, true, false, cond}
+use mathlib.Core.List.{List, _++_}
+use native.Mathlib.Omega.{arith}
+use borrow.Author.Tests.{eqb-true}
+use lib.Dec.{eqb}
+use lib.ListN.{length, take, drop}
+use lib.Seq.{take-all}
+use Rattle.base.proofs.Copies.{take-copy}
+use Rattle.book.specs.Formula.{maxClauses}
+use Rattle.book.specs.Numbers.{clausesOf, formulaOf}
+use Rattle.layout.specs.Layout.{held}
+use Rattle.validation.specs.Validation.{readRefusal}
+use Rattle.session.specs.Outcomes.{refused, accepted, countOf, copyAnswer, copyNumbers, checksOfRun}
+use Rattle.session.specs.declared.Count.the-variants as count
+use Rattle.session.proofs.PassedLaws.{checks-count, few-clauses}
+use Rattle.chapters.specs.Chapters.{chapterCount, chapterTotals, chaptersFit, totalsAfter, chapterAnswer, chapterNumbers}
+use Rattle.chapters.specs.declared.Filing.{Filing}
+use Rattle.chapters.specs.declared.Filing.the-variants as filing
+
+module _ (book session : List ℕ) where
+  abbrev counts : List ℕ
+  counts = held (formulaOf book) session .checks
+
+  -- a refusal is told where the session does not pass
+  told-refusal : (n : ℕ) → count.Refused n ≡ copyAnswer book session checksOfRun
+      → (n ≡ readRefusal book session) × (eqb (readRefusal book session) 0 ≡ false)
+  unfolding copyAnswer
+  told-refusal n e = go (eqb (readRefusal book session) 0) refl e
+    where
+      go : (t : Bool) → eqb (readRefusal book session) 0 ≡ t → count.Refused n ≡ countOf (cond t (accepted (length counts)) (refused (readRefusal book session)))
+          → (n ≡ readRefusal book session) × (eqb (readRefusal book session) 0 ≡ false)
+      go true zero e = let z : _≡_ {A = ℕ} 0 1 = cc e in absurd (omega arith)
+      go false other e = (cc e, other)
+
+  -- how many clauses there are, where it passes
+  told-count : (n : ℕ) → count.Of n ≡ copyAnswer book session checksOfRun → (0 ≡ readRefusal book session) × (n ≡ length counts)
+  unfolding copyAnswer
+  told-count n e = go (eqb (readRefusal book session) 0) refl e
+    where
+      go : (t : Bool) → eqb (readRefusal book session) 0 ≡ t → count.Of n ≡ countOf (cond t (accepted (length counts)) (refused (readRefusal book session)))
+          → (0 ≡ readRefusal book session) × (n ≡ length counts)
+      go true zero e = (sym (eqb-true (readRefusal book session) 0 zero), cc e)
+      go false other e = let z : _≡_ {A = ℕ} 0 1 = cc e in absurd (omega arith)
+
+  module _ (chapters totals : List ℕ) where
+    -- the lent totals follow the answer
+    after : (answer : Filing) → answer ≡ chapterAnswer book session chapters (length totals)
+        → totalsAfter (chapterTotals counts chapters) totals answer ≡ chapterNumbers book session chapters totals
+    unfolding chapterNumbers
+    after answer e = ap (totalsAfter (chapterTotals counts chapters) totals) e
+
+    pub answers-refused : (n : ℕ) → count.Refused n ≡ copyAnswer book session checksOfRun
+        → (filing.Refused n ≡ chapterAnswer book session chapters (length totals)) × (totals ≡ chapterNumbers book session chapters totals)
+    unfolding chapterAnswer
+    answers-refused n e =
+        let refusal = told-refusal n e in
+        let is : filing.Refused n ≡ chapterAnswer book session chapters (length totals) = rw (refusal .1, refusal .0) in
+        (is, after (filing.Refused n) is)
+
+    module _ (n : ℕ) (e : count.Of n ≡ copyAnswer book session checksOfRun) where
+      none : 0 ≡ readRefusal book session
+      none = told-count n e .0
+
+      clauses-told : n ≡ clausesOf book
+      clauses-told = told-count n e .1 ∙ checks-count book session none
+
+      pub few-told : n ≤ maxClauses
+      few-told = omega (arith, clauses-told, few-clauses book session none)
+
+      answers : (fit : Bool) → fit ≡ chaptersFit n chapters (length totals) → filing.Filed fit ≡ chapterAnswer book session chapters (length totals)
+      unfolding chapterAnswer
+      answers fit is = rw (← none, ← clauses-told, ← is)
+
+      pub answers-unfit : false ≡ chaptersFit n chapters (length totals)
+          → (filing.Filed false ≡ chapterAnswer book session chapters (length totals)) × (totals ≡ chapterNumbers book session chapters totals)
+      answers-unfit unfit = (answers false unfit, after (filing.Filed false) (answers false unfit))
+
+      -- the copy has room for all counts
+      copy-is : (zeros : List ℕ) → length zeros ≡ maxClauses → take n (copyNumbers book session checksOfRun zeros) ≡ counts
+      unfolding copyNumbers
+      copy-is zeros room =
+          let all-of-them : take (length zeros) counts ≡ counts = take-all (length zeros) counts (omega (arith, room, few-told, told-count n e .1)) in
+          let size : n ≡ length (take (length zeros) counts) = told-count n e .1 ∙ ap length (sym all-of-them) in
+          rw (← none, size, take-copy counts zeros) all-of-them
+
+      pub answers-fit : (zeros copy now : List ℕ) → length zeros ≡ maxClauses → copy ≡ copyNumbers book session checksOfRun zeros
+          → true ≡ chaptersFit n chapters (length totals) → now ≡ chapterTotals (take n copy) chapters ++ drop chapterCount totals
+          → (filing.Filed true ≡ chapterAnswer book session chapters (length totals)) × (now ≡ chapterNumbers book session chapters totals)
+      answers-fit zeros copy now room is fit written =
+          let same : take n copy ≡ counts = rw is (copy-is zeros room) in
+          (answers true fit, written ∙ rw same (after (filing.Filed true) (answers true fit)))

@@ -1,0 +1,4 @@
+-- The laws of `chapters` that proofs cite.
+pub mod FitLaws
+pub mod SumLaws
+pub mod AnswerLaws

@@ -1,0 +1,2 @@
+-- The definitions of `chapters`.
+pub mod Chapters
