@@ -13,37 +13,59 @@ use Rattle.book.specs.Formula.{maxClauses}
 use Rattle.book.specs.Numbers.{clausesOf, formulaOf}
 use Rattle.layout.specs.Layout.{held}
 use Rattle.validation.specs.Validation.{readRefusal}
-use Rattle.session.specs.Outcomes.{refused, accepted, countOf, copyAnswer, copyNumbers, checksOfRun}
+use Rattle.session.specs.Outcomes.{Outcome, refused, accepted, outcome, countOf, copyAnswer, copyNumbers, checksOfRun}
 use Rattle.session.specs.declared.Count.the-variants as count
 use Rattle.session.proofs.PassedLaws.{checks-count, few-clauses}
-use Rattle.chapters.specs.Chapters.{chapterCount, chapterTotals, chaptersFit, totalsAfter, chapterAnswer, chapterNumbers}
+use Rattle.chapters.specs.Chapters.{chapterCount, chapterTotals, chaptersFit, filingOf, totalsAfter, chapterAnswer, chapterNumbers}
 use Rattle.chapters.specs.declared.Filing.{Filing}
 use Rattle.chapters.specs.declared.Filing.the-variants as filing
+
+-- an outcome is accepted where there is no refusal number, and refused by another number than 0
+module _ {A : Type 0} (number : ℕ) (said : A) where
+  outcome-accepted : (x : A) → outcome number said ≡ accepted x → (0 ≡ number) × (said ≡ x)
+  outcome-accepted x e = go (eqb number 0) refl e
+    where
+      go : (t : Bool) → eqb number 0 ≡ t → cond t (accepted said) (refused number) ≡ accepted x → (0 ≡ number) × (said ≡ x)
+      go true zero e = (sym (eqb-true number 0 zero), cc e)
+      go false other e = let z : _≡_ {A = ℕ} 0 1 = cc e in absurd (omega arith)
+
+  outcome-refused : (n : ℕ) → outcome number said ≡ refused n → (number ≡ n) × (eqb number 0 ≡ false)
+  outcome-refused n e = go (eqb number 0) refl e
+    where
+      go : (t : Bool) → eqb number 0 ≡ t → cond t (accepted said) (refused number) ≡ refused n → (number ≡ n) × (eqb number 0 ≡ false)
+      go true zero e = let z : _≡_ {A = ℕ} 0 1 = cc e in absurd (omega arith)
+      go false other e = (cc e, other)
+
+-- a count tells its outcome, and so does what `chapter_totals` answers
+count-of : (n : ℕ) (o : Outcome ℕ) → count.Of n ≡ countOf o → o ≡ accepted n
+count-of n (refused m) e = let z : _≡_ {A = ℕ} 0 1 = cc e in absurd (omega arith)
+count-of n (accepted m) e = cc e
+
+count-refused : (n : ℕ) (o : Outcome ℕ) → count.Refused n ≡ countOf o → o ≡ refused n
+count-refused n (refused m) e = cc e
+count-refused n (accepted m) e = let z : _≡_ {A = ℕ} 0 1 = cc e in absurd (omega arith)
+
+filing-filed : (fit : Bool) (o : Outcome Bool) → filingOf o ≡ filing.Filed fit → o ≡ accepted fit
+filing-filed fit (refused m) e = let z : _≡_ {A = ℕ} 0 1 = cc e in absurd (omega arith)
+filing-filed fit (accepted b) e = cc e
+
+-- where it answers true or false, the session passes, and the answer is whether the chapters fit
+pub filed-passes : (book session chapters : List ℕ) (room : ℕ) (fit : Bool) → chapterAnswer book session chapters room ≡ filing.Filed fit
+    → (0 ≡ readRefusal book session) × (chaptersFit (clausesOf book) chapters room ≡ fit)
+unfolding chapterAnswer
+filed-passes book session chapters room fit e = outcome-accepted (readRefusal book session) _ fit (filing-filed fit _ e)
 
 module _ (book session : List ℕ) where
   abbrev counts : List ℕ
   counts = held (formulaOf book) session .checks
 
-  -- a refusal is told where the session does not pass
-  told-refusal : (n : ℕ) → count.Refused n ≡ copyAnswer book session checksOfRun
-      → (n ≡ readRefusal book session) × (eqb (readRefusal book session) 0 ≡ false)
+  told-count : (n : ℕ) → count.Of n ≡ copyAnswer book session checksOfRun → (0 ≡ readRefusal book session) × (length counts ≡ n)
   unfolding copyAnswer
-  told-refusal n e = go (eqb (readRefusal book session) 0) refl e
-    where
-      go : (t : Bool) → eqb (readRefusal book session) 0 ≡ t → count.Refused n ≡ countOf (cond t (accepted (length counts)) (refused (readRefusal book session)))
-          → (n ≡ readRefusal book session) × (eqb (readRefusal book session) 0 ≡ false)
-      go true zero e = let z : _≡_ {A = ℕ} 0 1 = cc e in absurd (omega arith)
-      go false other e = (cc e, other)
+  told-count n e = outcome-accepted (readRefusal book session) (length counts) n (count-of n _ e)
 
-  -- how many clauses there are, where it passes
-  told-count : (n : ℕ) → count.Of n ≡ copyAnswer book session checksOfRun → (0 ≡ readRefusal book session) × (n ≡ length counts)
+  told-refusal : (n : ℕ) → count.Refused n ≡ copyAnswer book session checksOfRun → (readRefusal book session ≡ n) × (eqb (readRefusal book session) 0 ≡ false)
   unfolding copyAnswer
-  told-count n e = go (eqb (readRefusal book session) 0) refl e
-    where
-      go : (t : Bool) → eqb (readRefusal book session) 0 ≡ t → count.Of n ≡ countOf (cond t (accepted (length counts)) (refused (readRefusal book session)))
-          → (0 ≡ readRefusal book session) × (n ≡ length counts)
-      go true zero e = (sym (eqb-true (readRefusal book session) 0 zero), cc e)
-      go false other e = let z : _≡_ {A = ℕ} 0 1 = cc e in absurd (omega arith)
+  told-refusal n e = outcome-refused (readRefusal book session) (length counts) n (count-refused n _ e)
 
   module _ (chapters totals : List ℕ) where
     -- the lent totals follow the answer
@@ -65,7 +87,7 @@ module _ (book session : List ℕ) where
       none = told-count n e .0
 
       clauses-told : n ≡ clausesOf book
-      clauses-told = told-count n e .1 ∙ checks-count book session none
+      clauses-told = sym (told-count n e .1) ∙ checks-count book session none
 
       pub few-told : n ≤ maxClauses
       few-told = omega (arith, clauses-told, few-clauses book session none)
@@ -83,7 +105,7 @@ module _ (book session : List ℕ) where
       unfolding copyNumbers
       copy-is zeros room =
           let all-of-them : take (length zeros) counts ≡ counts = take-all (length zeros) counts (omega (arith, room, few-told, told-count n e .1)) in
-          let size : n ≡ length (take (length zeros) counts) = told-count n e .1 ∙ ap length (sym all-of-them) in
+          let size : n ≡ length (take (length zeros) counts) = sym (told-count n e .1) ∙ ap length (sym all-of-them) in
           rw (← none, size, take-copy counts zeros) all-of-them
 
       pub answers-fit : (zeros copy now : List ℕ) → length zeros ≡ maxClauses → copy ≡ copyNumbers book session checksOfRun zeros

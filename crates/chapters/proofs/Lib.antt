@@ -2,3 +2,4 @@
 pub mod FitLaws
 pub mod SumLaws
 pub mod AnswerLaws
+pub mod ChaptersTotal

@@ -31,12 +31,12 @@ fn chapters_fit(clauses: usize, chapters: &[u32], room: usize) -> bool
     if chapters.len() < clauses {
         return false;
     }
-    let mut c = 0;
-    while c < clauses {
-        if MAX_CHAPTER < chapters[c] {
+    let mut i = 0;
+    while i < clauses {
+        if MAX_CHAPTER < chapters[i] {
             return false;
         }
-        c += 1;
+        i += 1;
     }
     true
 }

@@ -4,3 +4,4 @@ pub mod K4
 pub mod K7
 pub mod K5
 pub mod K14
+pub mod K6

@@ -8,10 +8,10 @@ use Rattle.chapters.proofs.chapters_fit.Statement.{statement}
 use Rattle.chapters.proofs.chapters_fit.Tie as tie
 
 abbrev Inv-loop : tie.InvT-loop
-Inv-loop clauses chapters room c₀ c = Within chapters c
+Inv-loop clauses chapters room i₀ i = Within chapters i
 
 abbrev μ-loop : tie.MeasureT-loop
-μ-loop clauses chapters room c₀ c = clauses - c
+μ-loop clauses chapters room i₀ i = clauses - i
 
 returns : tie.Need-returns Inv-loop μ-loop
 returns c = unfit _ (c .before .args .chapters .now) _ (λ f. omega (arith, c .if1 .taken, f .roomy))
@@ -31,10 +31,10 @@ shared-slice-read-if3 c = search needs
 returns-3 : tie.Need-returns-3 Inv-loop μ-loop
 returns-3 c =
     let at-loop = c .before .before .before in
-    unfit _ (at-loop .before .before .before .args .chapters .now) _ (λ f. omega (arith, c .if3 .taken, f .within (at-loop .loop .c) (search needs)))
+    unfit _ (at-loop .before .before .before .args .chapters .now) _ (λ f. omega (arith, c .if3 .taken, f .within (at-loop .loop .i) (search needs)))
 
-add-c : tie.Need-add-c Inv-loop μ-loop
-add-c c = search needs
+add-i : tie.Need-add-i Inv-loop μ-loop
+add-i c = search needs
 
 loop-less : tie.Need-loop-less Inv-loop μ-loop
 loop-less c = search needs
@@ -42,7 +42,7 @@ loop-less c = search needs
 loop-again : tie.Need-loop-again Inv-loop μ-loop
 loop-again c =
     let at-loop = c .before .before .before in
-    within-more (at-loop .before .before .before .args .chapters .now) (at-loop .loop .c) (at-loop .loop .inv) (search needs)
+    within-more (at-loop .before .before .before .args .chapters .now) (at-loop .loop .i) (at-loop .loop .inv) (search needs)
 
 returns-4 : tie.Need-returns-4 Inv-loop μ-loop
 returns-4 c =
@@ -63,7 +63,7 @@ chapters-fit-spec =
     mul-if3
     shared-slice-read-if3
     returns-3
-    add-c
+    add-i
     loop-less
     loop-again
     returns-4)
