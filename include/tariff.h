@@ -115,9 +115,10 @@ uint64_t tariff_checks(const uint32_t *book, size_t book_length, const uint32_t 
  * Refuses: 11, 12. */
 uint64_t tariff_total(const uint32_t *book, size_t book_length, const uint32_t *session, size_t session_length, uint64_t *sum);
 
-/* The checks that each chapter of rules has cost, of a chapter for each rule, rule 1 first; what lies behind these is not looked at.
- * Accepted: 1, and writes the 32 sums to `totals`, chapter 0 first, and nothing behind them; together they are the sum of all checks. Or 0 and writes
- * nothing: a rule's chapter is over 31, there are fewer chapters than rules, or `totals` is shorter than 32.
+/* The checks that each chapter of rules has cost. `chapters` has a chapter for each rule, 0 to 31, rule 1 first; what lies behind these is not looked at.
+ * Accepted: 1, true: writes the 32 sums to `totals`, chapter 0 first, and nothing behind them; together they are the sum of all checks. Or 0, false, where a
+ * rule's chapter is over 31, there are fewer chapters than rules, or `totals` is shorter than 32: writes nothing. False is no refusal; the number tells it, and
+ * not the kind.
  * Refuses: 11, 12. */
 uint64_t tariff_chapters(const uint32_t *book, size_t book_length, const uint32_t *session, size_t session_length,
                          const uint32_t *chapters, size_t chapters_length, uint64_t *totals, size_t totals_length);

@@ -1,6 +1,6 @@
 #!/usr/bin/env bash
 # The C header and the bench's declarations are those of the functions that crates/capi and bench/steps.rt.txt export: names, lent parts in
-# their order, numbers, result; the header compiles and its limits are the book's. Then copies with one declaration damaged must be noticed, by its name.
+# their order, numbers, result; the header compiles and its limits are the crates'. Then copies with one declaration damaged must be noticed, by its name.
 set -euo pipefail
 cd "$(dirname "$0")/.."
 source=crates/capi/src/lib.rt
@@ -9,10 +9,11 @@ bench=bench/src/proved.rs
 steps_source=bench/steps.rt.txt
 steps=bench/src/steps.rs
 limits=crates/book/src/limits.rt
+chapters=crates/chapters/src/lib.rt
 wrong=target/tests/header.wrong
 
 # Each of these prints a line `NAME PARAMETER.. -> RESULT` for each function of a file; a parameter is `part:bytes`, `part:numbers`,
-# `part:mut-numbers`, `part:mut-u64` or `u32`; what is none of these stays as it is written.
+# `part:mut-numbers`, `part:mut-wides`, `part:mut-u64` or `u32`; what is none of these stays as it is written.
 
 # A text of Rattle or Rust without comments, in one line.
 code_of() {
@@ -24,7 +25,8 @@ exported() {
     code_of "$1" | grep -oE '#\[no_mangle\] +pub extern "C" fn [^{]*' |
         sed -E 's/.* fn ([a-z_0-9]+) *\(([^)]*)\) *(-> *([a-z0-9]+))?.*/\1 \2 -> \4/' |
         sed -E 's/,? -> / -> /; s/([a-z]+): *&\[u8\]/\1:bytes/g; s/([a-z]+): *&\[u32\]/\1:numbers/g;
-                s/([a-z]+): *&mut \[u32\]/\1:mut-numbers/g; s/([a-z]+): *&mut u64/\1:mut-u64/g; s/[a-z]+: *u32/u32/g' | tidy
+                s/([a-z]+): *&mut \[u32\]/\1:mut-numbers/g; s/([a-z]+): *&mut \[u64\]/\1:mut-wides/g;
+                s/([a-z]+): *&mut u64/\1:mut-u64/g; s/[a-z]+: *u32/u32/g' | tidy
 }
 
 # The declarations of a C header, as a compiler sees them; a part and its length are named alike, and a result is nothing but its type.
@@ -34,8 +36,8 @@ declared_in_c() {
         grep -vE '^ *static inline uint32_t tariff_[a-z]+\([^()]*\) <body>$' |
         sed -E 's/^ *([^(]*[ *])(tariff_[a-z_0-9]+)\((.*)\) *$/\2 \3 -> \1/; s/ +$//' |
         sed -E 's/const uint8_t \*([a-z]+), *size_t \1_length/\1:bytes/g; s/const uint32_t \*([a-z]+), *size_t \1_length/\1:numbers/g;
-                s/uint32_t \*([a-z]+), *size_t \1_length/\1:mut-numbers/g; s/uint64_t \*([a-z]+)/\1:mut-u64/g;
-                s/uint32_t [a-z]+/u32/g; s/-> uint64_t$/-> u64/' | tidy
+                s/uint32_t \*([a-z]+), *size_t \1_length/\1:mut-numbers/g; s/uint64_t \*([a-z]+), *size_t \1_length/\1:mut-wides/g;
+                s/uint64_t \*([a-z]+)/\1:mut-u64/g; s/uint32_t [a-z]+/u32/g; s/-> uint64_t$/-> u64/' | tidy
 }
 
 # The declarations of a Rust file in its `extern "C"` block; each is `fn` from its start on.
@@ -43,26 +45,28 @@ declared_in_rust() {
     code_of "$1" | grep -oE 'extern "C" \{[^}]*\}' | sed 's,^extern "C" {,,' | tr ';' '\n' | grep 'fn ' |
         sed -E 's/^ *fn ([a-z_0-9]+)\((.*)\) *(-> *([a-z0-9]+))? *$/\1 \2 -> \4/' |
         sed -E 's/,? *-> / -> /; s/([a-z]+): \*const u8, *[a-z]: usize/\1:bytes/g; s/([a-z]+): \*const u32, *[a-z]: usize/\1:numbers/g;
-                s/([a-z]+): \*mut u32, *[a-z]: usize/\1:mut-numbers/g; s/([a-z]+): \*mut u64/\1:mut-u64/g; s/[a-z]+: u32/u32/g' | tidy
+                s/([a-z]+): \*mut u32, *[a-z]: usize/\1:mut-numbers/g; s/([a-z]+): \*mut u64, *[a-z]: usize/\1:mut-wides/g;
+                s/([a-z]+): \*mut u64/\1:mut-u64/g; s/[a-z]+: u32/u32/g' | tidy
 }
 
-# The limits, as the crate `book` has them, and as a header has them.
-limits_of_the_book() {
+# The limits, as the crates `book` and `chapters` have them, and as a header has them.
+limits_of_the_crates() {
     local variables clauses literals
     variables=$(limit MAX_VARIABLES) clauses=$(limit MAX_CLAUSES) literals=$(limit MAX_LITERALS)
     echo "TARIFF_BOOK $((clauses + literals + 4))"
+    echo "TARIFF_CHAPTERS $(limit CHAPTERS)"
     echo "TARIFF_FEATURES $variables"
     echo "TARIFF_RULES $clauses"
     echo "TARIFF_SESSION $((5 * variables + 6 * clauses + 5))"
 }
 
 limit() {
-    sed -nE "s/^pub const $1: usize = ([0-9]+);/\\1/p" "$limits"
+    sed -nE "s/^pub const $1: usize = ([0-9]+);/\\1/p" "$limits" "$chapters"
 }
 
 # A macro under the name of a function is none of the limits, and stands out.
 limits_in_c() {
-    gcc -E -dM "$1" | sed -nE 's/^#define ((TARIFF_(BOOK|FEATURES|RULES|SESSION) |tariff_).*)$/\1/p' | sort
+    gcc -E -dM "$1" | sed -nE 's/^#define ((TARIFF_(BOOK|CHAPTERS|FEATURES|RULES|SESSION) |tariff_).*)$/\1/p' | sort
 }
 
 tidy() {
@@ -72,7 +76,7 @@ tidy() {
 # same SOURCE HEADER BENCH STEPS_SOURCE STEPS: says each function and limit that differs, and fails where one does.
 same() {
     local code=0
-    against "$2" "$(limits_of_the_book)" "$(limits_in_c "$2")" || code=1
+    against "$2" "$(limits_of_the_crates)" "$(limits_in_c "$2")" || code=1
     against "$2" "$(exported "$1")" "$(declared_in_c "$2")" || code=1
     against "$3" "$(exported "$1")" "$(declared_in_rust "$3")" || code=1
     against "$5" "$(exported "$4")" "$(declared_in_rust "$5")" || code=1
@@ -127,6 +131,15 @@ notices "$header" tariff_open '/^uint64_t tariff_open/s/uint64_t/uint32_t/'
 notices "$header" tariff_read '/tariff_read/s/uint8_t/uint32_t/'
 notices "$header" tariff_required_length '/tariff_required_length/s/, size_t book_length//'
 notices "$header" tariff_trail_from 's/uint32_t before, uint32_t \*out, size_t out_length/uint32_t *out, size_t out_length, uint32_t before/'
+notices "$header" tariff_chapters '/^uint64_t tariff_chapters/,/;$/d'
+notices "$header" tariff_chapters 's/uint64_t \*totals/uint32_t *totals/'
+notices "$header" tariff_chapters 's/uint64_t \*totals/const &/'
+notices "$header" tariff_chapters 's/, size_t totals_length//'
+notices "$header" tariff_chapters 's/const uint32_t \*chapters/uint32_t *chapters/'
+notices "$header" tariff_chapters 's/, size_t chapters_length//'
+notices "$header" tariff_chapters 's/(const uint32_t \*chapters, .*), (uint64_t \*totals, .*)\);/\2, \1);/'
+notices "$header" TARIFF_CHAPTERS '/define TARIFF_CHAPTERS/s/32/31/'
+notices "$header" TARIFF_CHAPTERS '/define TARIFF_CHAPTERS/d'
 notices "$header" TARIFF_SESSION '/define TARIFF_SESSION/s/11505/11504/'
 notices "$header" TARIFF_BOOK '/define TARIFF_BOOK/d'
 notices "$header" TARIFF_RULES 's,^#define TARIFF_RULES,// &,'
@@ -138,10 +151,16 @@ notices "$bench" tariff_open '/fn tariff_open/d'
 notices "$bench" tariff_close 's/^(extern "C" \{)/\1 fn tariff_close(session: *mut u32, n: usize) -> u64;/'
 notices "$bench" tariff_decide '/fn tariff_decide/s/literal: u32/literal: u64/'
 notices "$bench" tariff_total '/fn tariff_total/s/sum: \*mut u64/sum: *mut u32/'
+notices "$bench" tariff_chapters 's/totals: \*mut u64/totals: *mut u32/'
+notices "$bench" tariff_chapters '/totals: \*mut u64/{n;d}'
+notices "$bench" tariff_chapters 's/chapters: \*const u32/chapters: *mut u32/'
 notices "$bench" tariff_lookup '/fn tariff_lookup/s/session: \*const/session: *mut/'
 notices "$bench" tariff_read '/fn tariff_read/s/u64;/u32;/'
 notices "$source" tariff_open '/fn tariff_open/s/tariff_open/tariff_open(other: u32, /; /fn tariff_open/s/, \(book/, book/'
 notices "$source" tariff_lookup '/fn tariff_lookup/s/session: &\[u32\]/session: \&mut [u32]/'
+notices "$source" tariff_chapters 's/totals: &mut \[u64\]/totals: \&mut [u32]/'
+notices "$source" tariff_chapters 's/totals: &mut \[u64\]/totals: \&mut u64/'
+notices "$source" tariff_chapters 's/chapters: &\[u32\]/chapters: \&mut [u32]/'
 notices "$steps" step_decide '/fn step_decide/d'
 notices "$steps" step_decide '/fn step_decide/s/literal: u32/literal: u64/'
 notices "$steps" step_backtrack '/fn step_backtrack/s/session: \*mut/session: *const/'

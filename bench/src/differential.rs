@@ -41,6 +41,13 @@ fn about(random: &mut Random, session: &[u32]) -> u32 {
     near.wrapping_add(random.below(4) as u32).wrapping_sub(1)
 }
 
+/// Numbers of 64 bits, each as its low half and its high half.
+fn halve(numbers: &[u64], halves: &mut [u32]) {
+    for (pair, number) in halves.chunks_exact_mut(2).zip(numbers) {
+        pair.copy_from_slice(&[*number as u32, (number >> 32) as u32]);
+    }
+}
+
 impl Compared {
     /// Makes a call on both engines, each over its own copy of the numbers; panics where they differ.
     fn both(&mut self, numbers: &mut Vec<u32>, call: impl Fn(&dyn Engine, &mut [u32]) -> Answer) -> Answer {
@@ -78,11 +85,25 @@ impl Compared {
         self.both(&mut vec![u32::MAX; room], |engine, out| {
             engine.checks(book, session, out)
         });
-        let mut halves = vec![7, 7];
-        self.both(&mut halves, |engine, halves| {
+        self.both(&mut vec![7; 2], |engine, halves| {
             let mut sum = 7;
             let answer = engine.total(book, session, &mut sum);
-            halves.copy_from_slice(&[sum as u32, (sum >> 32) as u32]);
+            halve(&[sum], halves);
+            answer
+        });
+        self.chapters(random, book, session);
+    }
+
+    /// The sums by chapter: most often good chapters, as many as there are clauses or some more, and room for the sums.
+    fn chapters(&mut self, random: &mut Random, book: &[u32], session: &[u32]) {
+        let length = (book[1] as usize + random.below(4)).saturating_sub(1);
+        let highest = if random.once_in(8) { 33 } else { 32 };
+        let chapters: Vec<u32> = (0..length).map(|_| random.below(highest) as u32).collect();
+        let room = 31 + random.below(4);
+        self.both(&mut vec![7; 2 * room], |engine, halves| {
+            let mut totals = vec![7; room];
+            let answer = engine.chapters(book, session, &chapters, &mut totals);
+            halve(&totals, halves);
             answer
         });
     }

@@ -23,6 +23,16 @@ extern "C" {
     fn tariff_figures(book: *const u32, n: usize, session: *const u32, m: usize, out: *mut u32, k: usize) -> u64;
     fn tariff_checks(book: *const u32, n: usize, session: *const u32, m: usize, out: *mut u32, k: usize) -> u64;
     fn tariff_total(book: *const u32, n: usize, session: *const u32, m: usize, sum: *mut u64) -> u64;
+    fn tariff_chapters(
+        book: *const u32,
+        n: usize,
+        session: *const u32,
+        m: usize,
+        chapters: *const u32,
+        k: usize,
+        totals: *mut u64,
+        l: usize,
+    ) -> u64;
 }
 
 pub struct Proved;
@@ -109,5 +119,20 @@ impl Engine for Proved {
 
     fn total(&self, book: &[u32], session: &[u32], sum: &mut u64) -> Answer {
         Answer::from_code(unsafe { tariff_total(book.as_ptr(), book.len(), session.as_ptr(), session.len(), sum) })
+    }
+
+    fn chapters(&self, book: &[u32], session: &[u32], chapters: &[u32], totals: &mut [u64]) -> Answer {
+        Answer::from_code(unsafe {
+            tariff_chapters(
+                book.as_ptr(),
+                book.len(),
+                session.as_ptr(),
+                session.len(),
+                chapters.as_ptr(),
+                chapters.len(),
+                totals.as_mut_ptr(),
+                totals.len(),
+            )
+        })
     }
 }

@@ -6,6 +6,9 @@ use super::validation;
 use crate::answer::Answer;
 use crate::places::{BACKTRACKS, CONFLICT, DECISIONS, FIXED, LENGTH};
 
+/// The chapters that clauses are filed in.
+const CHAPTERS: usize = 32;
+
 type Outcome = Result<Answer, u32>;
 
 /// The formula and the parts of a session that passes, or the refusal number.
@@ -147,4 +150,20 @@ pub fn total(book: &[u32], session: &[u32], sum: &mut u64) -> Outcome {
     let (_, parts) = validated(book, session)?;
     *sum = parts.checks.iter().map(|&count| u64::from(count)).sum();
     Ok(Answer::Accepted(0))
+}
+
+/// The sums of the checks by chapter, one chapter for each clause: 1; or 0 where they do not fit.
+pub fn chapters(book: &[u32], session: &[u32], chapters: &[u32], totals: &mut [u64]) -> Outcome {
+    let (_, parts) = validated(book, session)?;
+    let filed = chapters
+        .get(..parts.checks.len())
+        .filter(|filed| filed.iter().all(|&chapter| (chapter as usize) < CHAPTERS));
+    let (Some(filed), Some(totals)) = (filed, totals.get_mut(..CHAPTERS)) else {
+        return Ok(Answer::Accepted(0));
+    };
+    totals.fill(0);
+    for (&chapter, &count) in filed.iter().zip(parts.checks) {
+        totals[chapter as usize] += u64::from(count);
+    }
+    Ok(Answer::Accepted(1))
 }

@@ -64,4 +64,8 @@ impl Engine for Plain {
     fn total(&self, book: &[u32], session: &[u32], sum: &mut u64) -> Answer {
         answer(calls::total(book, session, sum))
     }
+
+    fn chapters(&self, book: &[u32], session: &[u32], chapters: &[u32], totals: &mut [u64]) -> Answer {
+        answer(calls::chapters(book, session, chapters, totals))
+    }
 }

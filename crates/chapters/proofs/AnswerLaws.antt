@@ -1,10 +1,9 @@
 -- What the copy of the counts answers, and what follows for the answer and the lent totals.
 use Prim.Native.Nat.{ℕ, _≤_}
-use mathlib.Core.Path.{_≡_, refl, sym, ap, _∙_}
-use mathlib.Core.Bool.{Bool, true, false, cond}
+use mathlib.Core.Path.{_≡_, sym, ap, _∙_}
+use mathlib.Core.Bool.{Bool, true, false}
 use mathlib.Core.List.{List, _++_}
 use native.Mathlib.Omega.{arith}
-use borrow.Author.Tests.{eqb-true}
 use lib.Dec.{eqb}
 use lib.ListN.{length, take, drop}
 use lib.Seq.{take-all}
@@ -13,38 +12,15 @@ use Rattle.book.specs.Formula.{maxClauses}
 use Rattle.book.specs.Numbers.{clausesOf, formulaOf}
 use Rattle.layout.specs.Layout.{held}
 use Rattle.validation.specs.Validation.{readRefusal}
-use Rattle.session.specs.Outcomes.{Outcome, refused, accepted, outcome, countOf, copyAnswer, copyNumbers, checksOfRun}
+use Rattle.session.specs.Outcomes.{Outcome, refused, accepted, copyAnswer, copyNumbers, checksOfRun}
 use Rattle.session.specs.declared.Count.the-variants as count
+use Rattle.session.proofs.OutcomeLaws.{outcome-accepted, outcome-refused, count-of, count-refused}
 use Rattle.session.proofs.PassedLaws.{checks-count, few-clauses}
 use Rattle.chapters.specs.Chapters.{chapterCount, chapterTotals, chaptersFit, filingOf, totalsAfter, chapterAnswer, chapterNumbers}
 use Rattle.chapters.specs.declared.Filing.{Filing}
 use Rattle.chapters.specs.declared.Filing.the-variants as filing
 
--- an outcome is accepted where there is no refusal number, and refused by another number than 0
-module _ {A : Type 0} (number : ℕ) (said : A) where
-  outcome-accepted : (x : A) → outcome number said ≡ accepted x → (0 ≡ number) × (said ≡ x)
-  outcome-accepted x e = go (eqb number 0) refl e
-    where
-      go : (t : Bool) → eqb number 0 ≡ t → cond t (accepted said) (refused number) ≡ accepted x → (0 ≡ number) × (said ≡ x)
-      go true zero e = (sym (eqb-true number 0 zero), cc e)
-      go false other e = let z : _≡_ {A = ℕ} 0 1 = cc e in absurd (omega arith)
-
-  outcome-refused : (n : ℕ) → outcome number said ≡ refused n → (number ≡ n) × (eqb number 0 ≡ false)
-  outcome-refused n e = go (eqb number 0) refl e
-    where
-      go : (t : Bool) → eqb number 0 ≡ t → cond t (accepted said) (refused number) ≡ refused n → (number ≡ n) × (eqb number 0 ≡ false)
-      go true zero e = let z : _≡_ {A = ℕ} 0 1 = cc e in absurd (omega arith)
-      go false other e = (cc e, other)
-
--- a count tells its outcome, and so does what `chapter_totals` answers
-count-of : (n : ℕ) (o : Outcome ℕ) → count.Of n ≡ countOf o → o ≡ accepted n
-count-of n (refused m) e = let z : _≡_ {A = ℕ} 0 1 = cc e in absurd (omega arith)
-count-of n (accepted m) e = cc e
-
-count-refused : (n : ℕ) (o : Outcome ℕ) → count.Refused n ≡ countOf o → o ≡ refused n
-count-refused n (refused m) e = cc e
-count-refused n (accepted m) e = let z : _≡_ {A = ℕ} 0 1 = cc e in absurd (omega arith)
-
+-- an answer of true or false tells that the call was accepted
 filing-filed : (fit : Bool) (o : Outcome Bool) → filingOf o ≡ filing.Filed fit → o ≡ accepted fit
 filing-filed fit (refused m) e = let z : _≡_ {A = ℕ} 0 1 = cc e in absurd (omega arith)
 filing-filed fit (accepted b) e = cc e
@@ -69,7 +45,7 @@ module _ (book session : List ℕ) where
 
   module _ (chapters totals : List ℕ) where
     -- the lent totals follow the answer
-    after : (answer : Filing) → answer ≡ chapterAnswer book session chapters (length totals)
+    pub after : (answer : Filing) → answer ≡ chapterAnswer book session chapters (length totals)
         → totalsAfter (chapterTotals counts chapters) totals answer ≡ chapterNumbers book session chapters totals
     unfolding chapterNumbers
     after answer e = ap (totalsAfter (chapterTotals counts chapters) totals) e

@@ -1,11 +1,10 @@
 -- What request K6 says of the totals: each is that of its chapter, together they are the session's total, what is lent behind them stays.
-use Prim.Native.Nat.{ℕ, suc, _+_, _*_, _≤_, _<_}
+use Prim.Native.Nat.{ℕ, suc, _+_, _≤_, _<_}
 use mathlib.Core.Path.{_≡_, refl, sym, ap, _∙_}
-use mathlib.Core.Bool.{Bool, true, false, cond}
+use mathlib.Core.Bool.{true, false, cond}
 use mathlib.Core.List.{List, [], _∷_, _++_}
-use mathlib.Core.Logic.{⊎-elim}
 use native.Mathlib.Omega.{arith}
-use borrow.Author.Tests.{eq-eqb, ne-eqb, eqb-true}
+use borrow.Author.Tests.{eq-eqb, ne-eqb}
 use lib.Dec.{eqb}
 use lib.ListN.{length, getD, take, drop, List·getD-append}
 use lib.Seq.{take-at, drop-at}
@@ -20,11 +19,11 @@ use Rattle.session.specs.Outcomes.{totalAnswer, openRefusal, replayNumbers}
 use Rattle.session.specs.declared.Sum.the-variants as total
 use Rattle.session.proofs.PassedLaws.{checks-count, total-is}
 use Rattle.session.proofs.Statements.{statement-3}
-use Rattle.chapters.specs.Chapters.{chapterCount, chapterTotal, chapterTotals, chaptersFit, filingOf, totalsAfter, chapterAnswer, chapterNumbers}
+use Rattle.chapters.specs.Chapters.{chapterCount, chapterTotal, chapterTotals, chaptersFit, totalsAfter, chapterAnswer, chapterNumbers}
 use Rattle.chapters.specs.declared.Filing.{Filing}
 use Rattle.chapters.specs.declared.Filing.the-variants as filing
 use Rattle.chapters.proofs.FitLaws.{Within, true-fit}
-use Rattle.chapters.proofs.AnswerLaws.{filed-passes}
+use Rattle.chapters.proofs.AnswerLaws.{filed-passes, after}
 
 -- the totals of chapters that are not over 31, one for each count, add up to the sum of the counts
 sum-by-chapter : (counts chapters : List ℕ) → length counts ≤ length chapters → Within chapters (length counts)
@@ -52,8 +51,7 @@ module _ (book session chapters totals : List ℕ) where
 
   -- Where the answer is true, chapter 0's total is the first of what is written, and chapter 31's the last.
   written : answer ≡ filing.Filed true → chapterNumbers book session chapters totals ≡ chapterTotals counts chapters ++ drop chapterCount totals
-  unfolding chapterNumbers
-  written e = ap (totalsAfter (chapterTotals counts chapters) totals) e
+  written e = sym (after book session chapters totals (filing.Filed true) (sym e))
 
   pub each-total : answer ≡ filing.Filed true → (k : ℕ) → k < chapterCount → getD (chapterNumbers book session chapters totals) k 0 ≡ chapterTotal k counts chapters
   unfolding chapterTotals

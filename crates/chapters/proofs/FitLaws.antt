@@ -1,6 +1,6 @@
 -- Chapters that fit, as the loop over the clauses meets them.
 use Prim.Native.Nat.{ℕ, _+_, _≤_, _<_}
-use mathlib.Core.Path.{_≡_, sym, ap}
+use mathlib.Core.Path.{_≡_, sym}
 use mathlib.Core.Bool.{Bool, true, false, _&&_}
 use mathlib.Core.List.{List}
 use mathlib.Core.Logic.{⊎-elim}
@@ -61,4 +61,4 @@ module _ (clauses : ℕ) (chapters : List ℕ) (room : ℕ) where
       }
 
   pub unfit : (Fit clauses chapters room → ⊥) → false ≡ chaptersFit clauses chapters room
-  unfit not = sym (refuted (chaptersFit clauses chapters room) (λ e. not (true-fit e)))
+  unfit fails = sym (refuted (chaptersFit clauses chapters room) (λ e. fails (true-fit e)))

@@ -1,18 +1,18 @@
 -- Totals cleared, and counts added to them by chapter, as the loops meet them.
-use Prim.Native.Nat.{ℕ, suc, _+_, _*_, _≤_, _<_}
+use Prim.Native.Nat.{ℕ, _+_, _*_, _≤_, _<_}
 use mathlib.Core.Path.{_≡_, refl, sym, ap, ap₂, _∙_}
 use mathlib.Core.Bool.{cond}
-use mathlib.Core.List.{List, [], _++_}
+use mathlib.Core.List.{List, _++_}
 use mathlib.Core.Logic.{⊎-elim}
 use native.Mathlib.Nat.{zero-add}
 use native.Mathlib.Numerals.{add-one}
 use native.Mathlib.Omega.{arith}
 use borrow.Author.Tests.{eq-eqb, ne-eqb}
 use lib.Dec.{eqb}
-use lib.ListN.{length, getD, take, drop, set, length-append, length-drop, length-set, take-append-drop, drop-of-length-le, List·getD-append}
+use lib.ListN.{length, getD, drop, set, length-append, length-drop, length-set, take-append-drop, drop-of-length-le, List·getD-append}
 use lib.Seq.{take-all, drop-cons, drop-at, drop-set-lt, getD-set-same, getD-set-other}
-use Rattle.base.proofs.Bools.{alike}
 use Rattle.base.specs.Lists.{table}
+use Rattle.base.proofs.Bools.{alike}
 use Rattle.base.proofs.Copies.{Copied, copied-none, length-copied, copied-more}
 use Rattle.base.proofs.Tables.{length-table, getD-table, part-table}
 use Rattle.run.specs.Run.{maxCount}
@@ -108,12 +108,12 @@ module _ (counts chapters : List ℕ) where
           small = λ k below. omega (arith, stored chapter n here k, a .small k below);
         }
 
-    pub added-all : (lent : List ℕ) → before ≡ zeros ++ drop chapterCount lent → chapterCount ≤ length lent → length counts ≤ c
-        → now ≡ chapterTotals counts chapters ++ drop chapterCount lent
+    pub added-all : (buffer : List ℕ) → before ≡ zeros ++ drop chapterCount buffer → chapterCount ≤ length buffer → length counts ≤ c
+        → now ≡ chapterTotals counts chapters ++ drop chapterCount buffer
     unfolding chapterTotals chapterTotal
-    added-all lent e roomy done =
+    added-all buffer e roomy done =
         let whole : (k : ℕ) → k < chapterCount → getD now k 0 ≡ chapterTotal k counts chapters
         = λ k h. let none : chapterTotal k (drop c counts) (drop c chapters) ≡ 0 = rw (drop-of-length-le counts done) in omega (arith, none, a .rest k h) in
         sym (take-append-drop chapterCount now)
-        ∙ ap₂ _++_ (part-table now 0 chapterCount (omega (arith, a .length-same, cleared-length lent before e roomy)) (λ (k : ℕ). chapterTotal k counts chapters) (λ k h. rw (zero-add k) (whole k h)))
-        (a .behind ∙ cleared-behind lent before e)
+        ∙ ap₂ _++_ (part-table now 0 chapterCount (omega (arith, a .length-same, cleared-length buffer before e roomy)) (λ (k : ℕ). chapterTotal k counts chapters) (λ k h. rw (zero-add k) (whole k h)))
+        (a .behind ∙ cleared-behind buffer before e)

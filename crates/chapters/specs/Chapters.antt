@@ -41,9 +41,9 @@ filingOf (accepted fit) = filing.Filed fit
 
 -- The lent totals afterwards: those written where the answer is true, followed by what is lent behind them; else nothing is written.
 abbrev pub totalsAfter : List ℕ → List ℕ → Filing → List ℕ
-totalsAfter written lent (filing.Refused number) = lent
-totalsAfter written lent (filing.Filed false) = lent
-totalsAfter written lent (filing.Filed true) = written ++ drop chapterCount lent
+totalsAfter written buffer (filing.Refused number) = buffer
+totalsAfter written buffer (filing.Filed false) = buffer
+totalsAfter written buffer (filing.Filed true) = written ++ drop chapterCount buffer
 
 -- On a book, of a session and of chapters, all as lent numbers. What only reads refuses by 11 and 12 alone.
 module _ (book session chapters : List ℕ) where

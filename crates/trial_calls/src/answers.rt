@@ -1,4 +1,5 @@
 // The answers of session calls in the paper's words. Each function answers how many literals of the trail are to be listed behind.
+use chapters::Filing;
 use session::Answer;
 use session::Assigned;
 use session::Back;
@@ -9,8 +10,10 @@ use trials::messages;
 use trials::messages::say;
 use trials::messages::say_literal;
 use trials::messages::say_numbers;
+use trials::messages::say_totals;
 use trials::messages::say_wide;
 use trials::rows::wide;
+use trials::space::totals_untouched;
 use trials::space::untouched;
 
 // Instead of a number of literals: the call was refused.
@@ -139,6 +142,33 @@ pub(crate) fn copied(word: u32, answer: Count, copy: &[u32]) -> u32 {
         Count::Refused(refusal) => {
             let answered = refused(refusal);
             untouched(copy, 0);
+            answered
+        }
+    }
+}
+
+// Whether totals by chapter were written: all lent totals are said where they were, and must be as they were lent where not.
+fn written(filed: bool, totals: &[u64]) {
+    if filed {
+        messages::print(messages::FILED);
+        messages::print(messages::COLON);
+        say_totals(totals);
+    } else {
+        messages::print(messages::NOT_FILED);
+        totals_untouched(totals);
+    }
+}
+
+// What a call for the totals by chapter answers, with the totals that were lent for it; a refusal must leave them alone.
+pub(crate) fn by_chapter(answer: Filing, totals: &[u64]) -> u32 {
+    match answer {
+        Filing::Filed(filed) => {
+            written(filed, totals);
+            0
+        }
+        Filing::Refused(refusal) => {
+            let answered = refused(refusal);
+            totals_untouched(totals);
             answered
         }
     }

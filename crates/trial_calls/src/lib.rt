@@ -1,5 +1,6 @@
 // The calls of a trial by their names, and what they answer, for `limits`. Each function answers how many literals of the trail are to be listed behind.
 pub mod answers;
+mod filing;
 pub mod reads;
 
 use crate::reads::read;
@@ -9,6 +10,7 @@ use trials::lists::numbers;
 use trials::messages;
 use trials::names;
 use trials::rows::behind;
+use trials::rows::wide;
 
 // Makes the calls of the list in a step; the answer is said where that is asked.
 fn replay(book: &[u32], session: &mut [u32], step: &[u8], said: bool) -> u32 {
@@ -67,6 +69,7 @@ pub fn call(book: &[u32], session: &mut [u32], step: &[u8], called: usize, a: u3
         names::MANY => decide_many(book, session, a, b),
         names::BEGIN | names::REPLAY => replay(book, session, step, called == names::REPLAY),
         names::LINE => line(book, session, parsed(step)),
+        names::CHAPTERS => filing::totals(book, session, step, wide(a)),
         _ => read(book, session, called, a, b),
     }
 }

@@ -74,9 +74,13 @@ pub const CHECKS: u32 = 33;
 
 pub const COPIED: u32 = 34;
 
-pub const BLANK: u32 = 35;
+pub const FILED: u32 = 35;
 
-pub const MINUS: u32 = 36;
+pub const NOT_FILED: u32 = 36;
+
+pub const BLANK: u32 = 37;
+
+pub const MINUS: u32 = 38;
 
 // Part k of the bytes, parted by `|`.
 pub fn print_part(bytes: &[u8], k: u32) {
@@ -92,7 +96,7 @@ pub fn print(word: u32) {
         b"\n|: | / |, too long|, no such name|, no such place|, lent numbers changed|, out of form|, lent numbers untouched|\
         , the rest untouched|, numbers|refused |V | C | L |well formed|open|choose | forced |:| rule |back |\
         fixed |feature | open| wanted at level | barred at level |checks |choices | backs | trail |choices fixed |need |\
-        rules |literals | |-",
+        rules |literals |true|false| |-",
         word,
     );
 }
@@ -140,6 +144,15 @@ pub fn say_numbers(numbers: &[u32]) {
     while i < numbers.len() {
         say(BLANK, numbers[i]);
         i += 1;
+    }
+}
+
+// The totals, each behind a blank.
+pub fn say_totals(totals: &[u64]) {
+    let mut k = 0;
+    while k < totals.len() {
+        say_wide(BLANK, totals[k] as usize);
+        k += 1;
     }
 }
 

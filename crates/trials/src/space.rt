@@ -8,6 +8,9 @@ pub const SPACE: usize = MAX_SESSION + 1;
 // What every lent number holds before a trial.
 pub const LENT: u32 = 4_294_967_295;
 
+// What every lent total of 64 bits holds before a trial.
+pub const LENT_TOTAL: u64 = 18_446_744_073_709_551_615;
+
 // Stores a number where the place is there.
 pub(crate) fn store(numbers: &mut [u32], place: usize, number: u32) {
     if place < numbers.len() {
@@ -54,4 +57,23 @@ pub fn compare(numbers: &[u32], kept: &[u32], from: usize) {
 // Numbers that must be as they were lent from a place on.
 pub fn untouched(numbers: &[u32], from: usize) {
     compare(numbers, &numbers[0..0], from);
+}
+
+// All totals are as they were lent.
+fn all_lent(totals: &[u64]) -> bool {
+    let mut k = 0;
+    while k < totals.len() {
+        if totals[k] != LENT_TOTAL {
+            return false;
+        }
+        k += 1;
+    }
+    true
+}
+
+// Totals that must be as they were lent; that they are not is said.
+pub fn totals_untouched(totals: &[u64]) {
+    if !all_lent(totals) {
+        messages::print(messages::CHANGED);
+    }
 }

@@ -1,7 +1,6 @@
 -- `chapter_totals` meets its contract. Assumes nothing.
-use Prim.Native.Nat.{ℕ, _≤_}
+use Prim.Native.Nat.{_≤_}
 use mathlib.Core.Bool.{true}
-use mathlib.Core.List.{List}
 use mathlib.Core.Path.{_≡_, sym, ap, _∙_}
 use native.Mathlib.Omega.{arith}
 use borrow.Author.Needs.{needs}
@@ -58,12 +57,12 @@ array-share-prefix-counts c =
     let few = few c in
     search needs
 
--- as many are lent on
-lent : (c : tie.Else1) → length (take (c .before .before .wide .result) (c .before .before .before .before .before .before .before .checks .last .1 .1 .0)) ≡ c .before .before .wide .result
-lent c = length-take-le _ _ (array-share-prefix-counts c)
+-- as many are handed on
+handed : (c : tie.Else1) → length (take (c .before .before .wide .result) (c .before .before .before .before .before .before .before .checks .last .1 .1 .0)) ≡ c .before .before .wide .result
+handed c = length-take-le _ _ (array-share-prefix-counts c)
 
 slice-aggregate-add-up : tie.Need-slice-aggregate-add-up
-slice-aggregate-add-up c = sym (lent (c .before))
+slice-aggregate-add-up c = sym (handed (c .before))
 
 fit : (c : tie.Else1) →
     let here = c .before .before in
@@ -73,7 +72,7 @@ fit c = sym (not-false _ (c .if1 .left)) ∙ c .before .chapters-fit .ensures
 add-up-requires : tie.Need-add-up-requires
 add-up-requires c κs =
     let passed = c .before .before in
-    (omega (arith, lent passed, few passed), rw (lent passed) (sym (fit passed)))
+    (omega (arith, handed passed, few passed), rw (handed passed) (sym (fit passed)))
 
 returns-2 : tie.Need-returns-2
 returns-2 c =

@@ -1,6 +1,5 @@
 -- `clear` meets its contract. Assumes nothing.
 use Prim.Native.Nat.{_-_}
-use native.Mathlib.Omega.{arith}
 use borrow.Author.Needs.{needs}
 use Rattle.chapters.specs.Chapters.{chapterCount}
 use Rattle.chapters.proofs.SumLaws.{Cleared, cleared-none, length-cleared, cleared-more, cleared-all}
