@@ -29,22 +29,17 @@ levels_by_example() {
         sed -E 's/^  ([0-9]+) .*: wanted.* choice ([0-9]+).*/\2 \1/; s/^  ([0-9]+) .*: barred.* choice ([0-9]+).*/\2 -\1/' | sort
 }
 
-# agree DESK EXAMPLE: two stored outputs have the same literals at the same levels.
-agree() {
-    diff <(levels_by_desk "$1") <(levels_by_example "$2")
+# agrees FILE: what is stored of the example has the literals that `desk` settles, at the same levels.
+agrees() {
+    diff <(levels_by_desk "$motor/output") <(levels_by_example "$1")
 }
 
 example "$motor/since.c" "$motor/since.output"
 prints_stored_in_every_build
-agree "$motor/output" "$stored"
+agrees "$stored"
 echo "since: $(levels_by_example "$stored" | wc -l) literals at the levels at which desk settles them"
 edits=('/marten bite/s/choice 4/choice 3/' '/seasonal plate/s/barred/wanted/' '/liability cover/s/the opening/choice 1/' '/: wanted, choice 11/d')
-for edit in "${edits[@]}"; do
-    edited "$stored" "$edit"
-    agree "$motor/output" "$folder/since.output" >/dev/null || continue
-    echo "since: not noticed in the stored output: $edit" >&2
-    exit 1
-done
+notices_in_stored "${edits[@]}"
 notices '/ tariff_state/s/% 4/% 2/'
 notices '/ tariff_state/s/% 4/% 8/'
 notices '/ tariff_state/s,% 4,/ 4,'

@@ -1,25 +1,11 @@
 /* Makes the session of a script on a tariff and says of each settled feature since which choice it is wanted or barred, the oldest first;
  * where a choice contradicts a rule, it says so at once of the features of that rule. */
-#include <tariff.h>
-#include <stdio.h>
-#include <stdlib.h>
-#include <string.h>
+#include "follow.h"
 
 /* The book's numbers: how many features, rules and literals it has, then where the literals of each rule start and the last end, then the literals. */
 enum { FEATURES, RULES, LITERALS, STARTS };
 
-static char text[60002]; /* a byte more than a tariff may have, and a 0 */
 static const char *names[TARIFF_FEATURES + 1];
-static uint32_t book[TARIFF_BOOK];
-static uint32_t session[TARIFF_SESSION];
-static size_t needed;
-static uint32_t choices;                     /* in force */
-static uint32_t chosen[TARIFF_FEATURES + 1]; /* the feature of each of them, from choice 1 on */
-
-static void fail(const char *what) {
-    fprintf(stderr, "since: %s\n", what);
-    exit(1);
-}
 
 static const char *name_of(uint32_t feature) {
     return names[feature] ? names[feature] : "unnamed";
@@ -91,68 +77,13 @@ static void read_names(void) {
     }
 }
 
-static void open_session(const char *path) {
-    FILE *file = fopen(path, "rb");
-    if (!file) fail("no such tariff");
-    size_t length = fread(text, 1, sizeof text - 1, file);
-    fclose(file);
-    if (tariff_kind(tariff_read((const uint8_t *)text, length, book, TARIFF_BOOK)) != TARIFF_ACCEPTED) fail("the tariff is refused");
-    read_names();
-    needed = tariff_number(tariff_required_length(book, TARIFF_BOOK));
-    uint64_t answer = tariff_open(book, TARIFF_BOOK, session, needed);
-    if (tariff_kind(answer) == TARIFF_CONFLICT) say_contradiction(tariff_number(answer));
-}
-
-/* A refused choice changes nothing; one that contradicts a rule is in force until it is taken back. */
-static void choose(uint32_t feature, uint32_t literal) {
-    uint64_t answer = tariff_decide(book, TARIFF_BOOK, session, needed, literal);
-    if (tariff_kind(answer) == TARIFF_REFUSED) return;
-    chosen[++choices] = feature;
-    if (tariff_kind(answer) == TARIFF_CONFLICT) say_contradiction(tariff_number(answer));
-}
-
-static void take_back(uint32_t k) {
-    if (tariff_kind(tariff_backtrack(book, TARIFF_BOOK, session, needed, k)) == TARIFF_ACCEPTED) choices -= k;
-}
-
-/* A number is one to nine digits, and nothing else. */
-static int read_number(const char *word, uint32_t *number) {
-    size_t length = strspn(word, "0123456789");
-    if (length < 1 || length > 9 || word[length] != '\0') return 0;
-    *number = (uint32_t)strtoul(word, NULL, 10);
-    return 1;
-}
-
-/* A line is a feature, wanted, or with `-` in front barred, or `b k`; any other is passed over, as `desk` refuses it. */
-static void follow_line(const char *line) {
-    uint32_t number;
-    if (strncmp(line, "b ", 2) == 0) {
-        if (read_number(line + 2, &number)) take_back(number);
-    } else if (line[0] == '-') {
-        if (read_number(line + 1, &number)) choose(number, tariff_barred(number));
-    } else if (read_number(line, &number)) {
-        choose(number, tariff_wanted(number));
-    }
-}
-
-/* Of a line 15 bytes are kept, more than a choice or a take-back has; a byte 0 is in neither. */
-static void follow(const char *path) {
-    FILE *file = fopen(path, "r");
-    if (!file) fail("no such script");
-    for (int byte = 0; byte != EOF;) {
-        char line[16];
-        size_t length = 0;
-        while ((byte = fgetc(file)) != '\n' && byte != EOF)
-            if (length < sizeof line - 1) line[length++] = byte == 0 ? '?' : (char)byte;
-        line[length] = '\0';
-        follow_line(line);
-    }
-    fclose(file);
-}
-
 int main(int count, char **words) {
+    program = "since";
+    at_contradiction = say_contradiction;
     if (count != 3) fail("usage: since TARIFF SCRIPT");
-    open_session(words[1]);
+    read_tariff(words[1]);
+    read_names();
+    open_session();
     follow(words[2]);
     say_settled();
     return 0;

@@ -34,6 +34,14 @@ private:
         session_need = library.required_length();
         if (random.chance(50)) lent.book.length = book_need;
         if (random.chance(50)) lent.session.length = session_need;
+        if (random.chance(10)) lend_all();
+        if (random.chance(5)) lent.session.memory[BACKTRACKS] = 1000000;
+    }
+
+    // As many session numbers as any book needs.
+    void lend_all() {
+        while (lent.session.memory.size() < TARIFF_SESSION) lent.session.memory.push_back(any());
+        lent.session.length = TARIFF_SESSION;
     }
 
     // As the session came to them; or any, all full, or any of the least and the greatest.
@@ -62,7 +70,7 @@ private:
 
     // Some more than there are clauses, of which one may be bad, and as many lent as there are clauses, or more.
     void chapters() {
-        size_t clauses = lent.clauses(), more = 1 + below(40);
+        size_t clauses = lent.clauses(), more = random.chance(10) ? TARIFF_RULES : 1 + below(40);
         good_chapters(clauses + more);
         if (random.chance(60)) lent.chapters.memory[clauses + (random.chance(60) ? 0 : below(more))] = bad_chapter();
         lent.chapters.length = random.chance(50) ? clauses : clauses + below(more + 1);
@@ -78,7 +86,7 @@ private:
 
     // Any numbers were there before, and some behind what is lent.
     void totals() {
-        size_t length = random.pick(std::vector<size_t>{32, 32, 33, 34 + below(40)});
+        size_t length = random.pick(std::vector<size_t>{32, 32, 33, 34 + below(random.chance(80) ? 40 : 1000)});
         if (random.chance(18)) length = random.pick(std::vector<size_t>{0, below(32), 31, 31});
         lent.totals = {Sums(CHAPTERS + length + 2), length};
         int kind = random.below(4);

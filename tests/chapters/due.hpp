@@ -11,8 +11,14 @@
 #include "../counts/judge.hpp"
 #include "lending.hpp"
 
-// A way to file: the library's call, or another one in its place.
+// A way to file: the library's call, or another one in its place; and so for the counts and the total that it is compared with.
 using Method = std::function<uint64_t(Lending&)>;
+
+struct Ways {
+    Method file = by_library;
+    std::function<uint64_t(const Lending&, Numbers&)> counts = copy_counts;
+    std::function<uint64_t(const Lending&, uint64_t&)> total = copy_total;
+};
 
 // The answers that are no refusals: true and false.
 constexpr uint64_t FILED = 1, NOT_FILED = 0;
@@ -35,9 +41,9 @@ inline bool has_bad_chapter(const Lending& lent, size_t clauses) {
     return std::any_of(first, first + static_cast<std::ptrdiff_t>(std::min(clauses, lent.chapters.length)), is_bad);
 }
 
-inline Due due_of(const Lending& lent) {
+inline Due due_of(const Lending& lent, const Ways& ways = {}) {
     Due due{NOT_FILED, lent.totals.memory};
-    uint64_t answer = copy_counts(lent, due.counts);
+    uint64_t answer = ways.counts(lent, due.counts);
     if (tariff_kind(answer) == TARIFF_REFUSED) {
         due.answer = answer;
         return due;
@@ -58,22 +64,24 @@ void compare_memory(const std::vector<Number>& memory, const std::vector<Number>
 }
 
 // The first 32 totals, which are written, are together what `tariff_total` writes.
-inline void compare_sum(const Lending& lent) {
+inline void compare_sum(const Lending& lent, const Ways& ways) {
     uint64_t sum = 0;
-    compare_number(copy_total(lent, sum), 0, "answer to the total", 0);
+    compare_number(ways.total(lent, sum), 0, "answer to the total", 0);
     compare_number(std::accumulate(lent.totals.memory.begin(), lent.totals.memory.begin() + CHAPTERS, uint64_t{0}), sum, "sum of totals", CHAPTERS);
 }
 
-// A call by this method; the number by which the examination refuses is known, if any. What was due.
-inline Due compare_filing(Lending lent, std::optional<uint64_t> refusal, const Method& method) {
+// A call in one of these ways; the number by which the examination refuses is known, if any. What was due.
+inline Due compare_filing(Lending lent, std::optional<uint64_t> refusal, const Ways& ways) {
     const Lending before = lent;
-    Due due = due_of(lent);
+    Due due = due_of(lent, ways);
     if (refusal) compare_number(due.refused() ? tariff_number(due.answer) : 0, *refusal, "refusal of the checks", 0);
-    compare_number(method(lent), due.answer, "answer with lent totals", lent.totals.length);
+    uint64_t answer = ways.file(lent);
+    compare_number(answer, due.answer, "answer with lent totals", lent.totals.length);
+    compare_number(tariff_filed(answer), due.answer == FILED, "what tariff_filed says with lent totals", lent.totals.length);
     compare_memory(lent.totals.memory, due.totals, "total");
     compare_memory(lent.book.memory, before.book.memory, "number of the book");
     compare_memory(lent.session.memory, before.session.memory, "number of the session");
     compare_memory(lent.chapters.memory, before.chapters.memory, "chapter of rule, from 0,");
-    if (due.answer == FILED) compare_sum(lent);
+    if (due.answer == FILED) compare_sum(lent, ways);
     return due;
 }

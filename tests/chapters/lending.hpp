@@ -27,7 +27,7 @@ struct Lending {
     size_t clauses() const { return book.memory[1]; }
 
     // Behind V, C, L the book has the start of each clause in its literals.
-    bool is_always_met(size_t clause) const { return book.memory[3 + clause] == book.memory[4 + clause]; }
+    uint32_t literals(size_t clause) const { return book.memory[4 + clause] - book.memory[3 + clause]; }
 
     // The place of a clause's count of checks in the session, by docs/LAYOUT.md.
     size_t count_place(size_t clause) const { return 5 + 3 * variables() + 3 * clauses() + clause; }

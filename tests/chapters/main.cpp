@@ -36,20 +36,20 @@ void wander(Random& random, Library& library, int steps) {
 }
 
 // Calls on the states that a random session comes to.
-void run_case(uint64_t seed, const shapes::Shape& shape, const Method& method, Tally& tally) {
+void run_case(uint64_t seed, const shapes::Shape& shape, const Ways& ways, Tally& tally) {
     Random random(seed);
     Library library(random, dimacs(repeats::any(random, shape.make(random))));
     library.open();
     for (int calls = 12; calls > 0; calls--) {
         if (random.chance(30)) wander(random, library, random.between(1, 20));
         Draw draw(random, library);
-        tally.add(draw.lent, compare_filing(draw.lent, draw.refusal, method));
+        tally.add(draw.lent, compare_filing(draw.lent, draw.refusal, ways));
     }
 }
 
 // A case as Cases runs it.
-auto by(const Method& method, Tally& tally) {
-    return [method, &tally](uint64_t seed, const shapes::Shape& shape) { run_case(seed, shape, method, tally); };
+auto by(const Ways& ways, Tally& tally) {
+    return [ways, &tally](uint64_t seed, const shapes::Shape& shape) { run_case(seed, shape, ways, tally); };
 }
 
 // What is written of a book and these chapters behind some decisions, with other counts lent where there are any.
@@ -82,7 +82,7 @@ void check_methods(const std::vector<methods::Named>& list, int due) {
     const char* before = " ";
     for (const methods::Named& named : list) {
         Tally tally;
-        auto [noticed, tried] = cases.trial(SELF_CHECKS, ENOUGH, by(named.method, tally));
+        auto [noticed, tried] = cases.trial(SELF_CHECKS, ENOUGH, by(named.ways, tally));
         std::string result = named.name + " " + std::to_string(noticed) + " of " + std::to_string(tried);
         if (noticed != due) throw std::runtime_error("noticed: " + result + ", must be " + std::to_string(due));
         std::cout << before << result;
@@ -110,7 +110,7 @@ int test() {
     std::cout << "chapters: right ones:";
     check_methods(methods::right_list(), 0);
     Tally tally;
-    if (cases.failures(CASES, by(by_library, tally)) > 0) return 1;
+    if (cases.failures(CASES, by(Ways{}, tally)) > 0) return 1;
     tally.print(std::chrono::duration<double>(std::chrono::steady_clock::now() - start).count());
     return 0;
 }

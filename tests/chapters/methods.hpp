@@ -107,6 +107,17 @@ inline void overlook(Lending& other, size_t clause) {
     if (clause < clauses_there(other)) other.chapters.memory[clause] %= CHAPTERS;
 }
 
+// The same of the clauses of which this holds, where the session passes.
+template <class Condition>
+Method overlooked(Condition condition) {
+    return lent_otherwise([condition](Lending& other) {
+        Numbers counts;
+        copy_counts(other, counts);
+        for (size_t clause = 0; clause < counts.size(); clause++)
+            if (condition(other, clause, counts[clause])) overlook(other, clause);
+    });
+}
+
 inline void fill_missing(Lending& other) {
     for (size_t i = other.chapters.length; i < clauses_there(other); i++) other.chapters.memory[i] = 0;
     other.chapters.length = std::max(other.chapters.length, clauses_there(other));
@@ -171,6 +182,22 @@ inline uint64_t sort_chapters(uint64_t answer, Lending& lent, const Lending&) {
     return answer;
 }
 
+inline uint64_t mark_book(uint64_t answer, Lending& lent, const Lending&) {
+    lent.book.memory.back()++;
+    return answer;
+}
+
+// A session that passes is refused by this number where this holds.
+template <class Condition>
+Method refused_where(uint64_t number, Condition condition) {
+    return [number, condition](Lending& lent) {
+        uint64_t sum = 0;
+        return !is_refused(copy_total(lent, sum)) && condition(lent) ? c_refusal(number) : by_library(lent);
+    };
+}
+
+inline bool in_conflict(const Lending& lent) { return lent.session.length > CONFLICT && lent.session.memory[CONFLICT] != 0; }
+
 inline uint64_t take_counts(uint64_t answer, Lending& lent, const Lending&) {
     for (size_t clause = 0; answer == FILED && clause < lent.clauses(); clause++) lent.session.memory[lent.count_place(clause)] = 0;
     return answer;
@@ -211,8 +238,11 @@ inline uint64_t by_totals(Lending& lent) {
 }
 
 struct Named {
+    Named(const std::string& name, const Method& file) : name(name) { ways.file = file; }
+    Named(const std::string& name, const Ways& ways) : name(name), ways(ways) {}
+
     std::string name;
-    Method method;
+    Ways ways;
 };
 
 // Wrong in what is taken for a chapter.
@@ -234,6 +264,12 @@ inline std::vector<Named> wrong_chapters() {
         {"C chapters refused", false_where([](const Lending& other) { return other.chapters.length <= other.clauses(); })},
         {"missing chapters taken as 0", lent_otherwise(fill_missing)},
         {"missing chapters looked for behind", lent_otherwise([](Lending& other) { other.chapters.length = other.chapters.memory.size(); })},
+        {"always-met rules' chapters not looked at",
+         overlooked([](const Lending& lent, size_t clause, uint32_t) { return lent.literals(clause) == 0; })},
+        {"one-literal rules' chapters not looked at",
+         overlooked([](const Lending& lent, size_t clause, uint32_t) { return lent.literals(clause) == 1; })},
+        {"chapters of rules without checks not looked at", overlooked([](const Lending&, size_t, uint32_t count) { return count == 0; })},
+        {"many chapters refused", false_where([](const Lending& other) { return other.chapters.length > other.clauses() + 100; })},
         {"chapters from the back", lent_otherwise([](Lending& other) {
              std::reverse(other.chapters.memory.begin(), other.chapters.memory.begin() + static_cast<std::ptrdiff_t>(other.chapters.length));
          })},
@@ -245,6 +281,7 @@ inline std::vector<Named> wrong_totals() {
     return {
         {"32 totals refused", false_where([](const Lending& other) { return other.totals.length == CHAPTERS; })},
         {"33 totals refused", false_where([](const Lending& other) { return other.totals.length > CHAPTERS; })},
+        {"many totals refused", false_where([](const Lending& other) { return other.totals.length > 255; })},
         {"31 totals filled", fill_room},
         {"32 totals written in any room", lent_otherwise([](Lending& other) { other.totals.length = CHAPTERS; })},
         {"lent totals counted in", totals_as([](uint64_t total, uint64_t before) { return total + before; })},
@@ -270,7 +307,7 @@ inline std::vector<Named> wrong_sums() {
         {"a rule counted twice",
          for_clauses([](const Lending& lent, size_t clause, Count count, uint64_t& total) { total += clause == lent.clauses() / 2 ? count : 0; })},
         {"always-met rules left out",
-         for_clauses([](const Lending& lent, size_t clause, Count count, uint64_t& total) { total -= lent.is_always_met(clause) ? count : 0; })},
+         for_clauses([](const Lending& lent, size_t clause, Count count, uint64_t& total) { total -= (lent.literals(clause) == 0) ? count : 0; })},
         {"full counts left out", for_clauses([](const Lending&, size_t, Count count, uint64_t& total) { total -= count == ~Count{0} ? count : 0; })},
         {"counts with a sign", for_clauses([](const Lending&, size_t, Count count, uint64_t& total) { total -= uint64_t{count >> 31} << 32; })},
         {"rules for checks", for_clauses([](const Lending&, size_t, Count count, uint64_t& total) { total += 1 - uint64_t{count}; })},
@@ -292,16 +329,37 @@ inline std::vector<Named> wrong_answers() {
         {"true for false", answer_as([](uint64_t answer) { return answer == NOT_FILED ? FILED : answer; })},
         {"false for true", answer_as([](uint64_t answer) { return answer == FILED ? NOT_FILED : answer; })},
         {"32 for true", answer_as([](uint64_t answer) { return answer == FILED ? CHAPTERS : answer; })},
+        {"false in contradiction", false_where(in_conflict)},
+        {"14 in contradiction", refused_where(14, in_conflict)},
+        {"12 at 1,000,000 take-backs", refused_where(12, [](const Lending& lent) { return lent.session.memory[BACKTRACKS] == 1000000; })},
+        {"12 for a session of all numbers", refused_where(12, [](const Lending& lent) { return lent.session.length == TARIFF_SESSION; })},
         {"totals cleared and false", then(clear_where_false)},
         {"totals cleared and refused", then(clear_where_refused)},
+        {"a number of the book changed", then(mark_book)},
         {"chapters sorted where they are lent", then(sort_chapters)},
         {"counts taken out of the session", then(take_counts)},
     };
 }
 
+// Wrong in what the call is compared with: the counts of the checks and the session's total.
+inline std::vector<Named> wrong_others() {
+    Ways eleven, low, refused;
+    eleven.counts = [](const Lending& lent, Numbers& counts) {
+        uint64_t answer = copy_counts(lent, counts);
+        return answer == c_refusal(11) ? c_refusal(12) : answer;
+    };
+    low.total = [](const Lending& lent, uint64_t& sum) {
+        uint64_t answer = copy_total(lent, sum);
+        sum &= 0xffffffffu;
+        return answer;
+    };
+    refused.total = [](const Lending&, uint64_t&) { return c_refusal(12); };
+    return {{"the checks refused by 12 for 11", eleven}, {"the session's total in 32 bits", low}, {"the session's total refused", refused}};
+}
+
 inline std::vector<Named> wrong_list() {
     std::vector<Named> all = wrong_chapters();
-    for (const std::vector<Named>& more : {wrong_totals(), wrong_sums(), wrong_answers()}) all.insert(all.end(), more.begin(), more.end());
+    for (const std::vector<Named>& more : {wrong_totals(), wrong_sums(), wrong_answers(), wrong_others()}) all.insert(all.end(), more.begin(), more.end());
     return all;
 }
 

@@ -83,7 +83,7 @@ private:
 
     static bool has_always_met(const Lending& lent, const Due& due) {
         for (size_t clause = 0; clause < due.counts.size(); clause++)
-            if (lent.is_always_met(clause) && due.counts[clause] > 0) return true;
+            if (lent.literals(clause) == 0 && due.counts[clause] > 0) return true;
         return false;
     }
 
@@ -99,17 +99,21 @@ private:
             is_true("C 1500", [](const Lending&, const Due& due) { return due.counts.size() == TARIFF_RULES; }),
             is_true("C chapters", [](const Lending& lent, const Due& due) { return lent.chapters.length == due.counts.size(); }),
             is_true("C + 1 chapters", [](const Lending& lent, const Due& due) { return lent.chapters.length == due.counts.size() + 1; }),
+            is_true("over C + 100 chapters", [](const Lending& lent, const Due& due) { return lent.chapters.length > due.counts.size() + 100; }),
             is_true("one over 31 behind C", [](const Lending& lent, const Due&) { return has_bad_chapter(lent, lent.chapters.length); }),
             is_true("all rules in one", [](const Lending& lent, const Due& due) { return due.counts.size() > 1 && chapters_used(lent, due) == 1; }),
             is_true("rules in all 32", [](const Lending& lent, const Due& due) { return chapters_used(lent, due) == CHAPTERS; }),
             is_true("32 totals", [](const Lending& lent, const Due&) { return lent.totals.length == 32; }),
             is_true("33 totals", [](const Lending& lent, const Due&) { return lent.totals.length == 33; }),
             is_true("more totals", [](const Lending& lent, const Due&) { return lent.totals.length > 33; }),
+            is_true("over 255 totals", [](const Lending& lent, const Due&) { return lent.totals.length > 255; }),
+            is_true("all session numbers", [](const Lending& lent, const Due&) { return lent.session.length == TARIFF_SESSION; }),
             is_true("a total over 32 bits", is_wide),
             is_true("a full count", [](const Lending&, const Due& due) { return has(due.counts, 0xffffffffu); }),
             is_true("a count of an always-met rule", has_always_met),
             is_true("a contradiction", [](const Lending& lent, const Due&) { return lent.session.memory[CONFLICT] != 0; }),
             is_true("take-backs", [](const Lending& lent, const Due&) { return lent.session.memory[BACKTRACKS] != 0; }),
+            is_true("1,000,000 take-backs", [](const Lending& lent, const Due&) { return lent.session.memory[BACKTRACKS] == 1000000; }),
             is_true("fixed choices", [](const Lending& lent, const Due&) { return lent.session.memory[FIXED] != 0; }),
         };
     }

@@ -1,10 +1,11 @@
 # Shared by the tests of the C examples: an example is built over the static library, run, and compared with its stored output.
-# The test says which one by `example SOURCE STORED`, and defines `run PROGRAM`, which runs it with its words.
+# The test says which one by `example SOURCE STORED [NAME]`; what is built is named after its source, if by no other name. It defines `run PROGRAM`,
+# which runs it with its words, and where something else than the example is to confirm the stored output, `agrees FILE`.
 
 example() {
     source=$1
     stored=$2
-    name=$(basename "$source" .c)
+    name=${3:-$(basename "$source" .c)}
     folder=target/tests/$name.d
     noticed=0
 }
@@ -21,7 +22,7 @@ prints_stored_in_every_build() {
     mkdir -p "$folder"
     cp "$source" "$folder/$name.cpp"
     compile "$name" "$source" "${library[@]}"
-    compile "$name.cpp" "$folder/$name.cpp" "${library[@]}"
+    compile "$name.cpp" "$folder/$name.cpp" "-I$(dirname "$source")" "${library[@]}"
     compile "$name.sanitized" "$source" "${library[@]}" "${sanitizers[@]}"
     for built in "$name" "$name.cpp" "$name.sanitized"; do
         prints_stored "$built"
@@ -37,6 +38,17 @@ edited() {
     cmp -s "$1" "$copy" || return 0
     echo "$name: an edit changes nothing: $2" >&2
     exit 1
+}
+
+# notices_in_stored EDIT...: with each of these sed edits the stored output no longer agrees.
+notices_in_stored() {
+    local edit
+    for edit in "$@"; do
+        edited "$stored" "$edit"
+        agrees "$folder/$(basename "$stored")" >/dev/null || continue
+        echo "$name: not noticed in the stored output: $edit" >&2
+        exit 1
+    done
 }
 
 # notices EDIT: with this sed edit of the header the example prints something else.

@@ -214,7 +214,7 @@ pub extern "C" fn tariff_total(book: &[u32], session: &[u32], sum: &mut u64) -> 
     }
 }
 
-// Writes the checks of each chapter to `totals`, where each clause has one.
+// Writes the checks of each chapter to `totals`, where the chapters of the clauses and the room for the totals fit.
 #[no_mangle]
 pub extern "C" fn tariff_chapters(
     book: &[u32],

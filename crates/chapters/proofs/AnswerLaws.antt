@@ -14,7 +14,7 @@ use Rattle.layout.specs.Layout.{held}
 use Rattle.validation.specs.Validation.{readRefusal}
 use Rattle.session.specs.Outcomes.{Outcome, refused, accepted, copyAnswer, copyNumbers, checksOfRun}
 use Rattle.session.specs.declared.Count.the-variants as count
-use Rattle.session.proofs.OutcomeLaws.{outcome-accepted, outcome-refused, count-of, count-refused}
+use Rattle.session.proofs.ToldLaws.{outcome-accepted, outcome-refused, count-of, count-refused}
 use Rattle.session.proofs.PassedLaws.{checks-count, few-clauses}
 use Rattle.chapters.specs.Chapters.{chapterCount, chapterTotals, chaptersFit, filingOf, totalsAfter, chapterAnswer, chapterNumbers}
 use Rattle.chapters.specs.declared.Filing.{Filing}
@@ -32,7 +32,7 @@ unfolding chapterAnswer
 filed-passes book session chapters room fit e = outcome-accepted (readRefusal book session) _ fit (filing-filed fit _ e)
 
 module _ (book session : List ℕ) where
-  abbrev counts : List ℕ
+  abbrev pub counts : List ℕ
   counts = held (formulaOf book) session .checks
 
   told-count : (n : ℕ) → count.Of n ≡ copyAnswer book session checksOfRun → (0 ≡ readRefusal book session) × (length counts ≡ n)
@@ -77,9 +77,9 @@ module _ (book session : List ℕ) where
       answers-unfit unfit = (answers false unfit, after (filing.Filed false) (answers false unfit))
 
       -- the copy has room for all counts
-      copy-is : (zeros : List ℕ) → length zeros ≡ maxClauses → take n (copyNumbers book session checksOfRun zeros) ≡ counts
+      counts-copied : (zeros : List ℕ) → length zeros ≡ maxClauses → take n (copyNumbers book session checksOfRun zeros) ≡ counts
       unfolding copyNumbers
-      copy-is zeros room =
+      counts-copied zeros room =
           let all-of-them : take (length zeros) counts ≡ counts = take-all (length zeros) counts (omega (arith, room, few-told, told-count n e .1)) in
           let size : n ≡ length (take (length zeros) counts) = sym (told-count n e .1) ∙ ap length (sym all-of-them) in
           rw (← none, size, take-copy counts zeros) all-of-them
@@ -88,5 +88,5 @@ module _ (book session : List ℕ) where
           → true ≡ chaptersFit n chapters (length totals) → now ≡ chapterTotals (take n copy) chapters ++ drop chapterCount totals
           → (filing.Filed true ≡ chapterAnswer book session chapters (length totals)) × (now ≡ chapterNumbers book session chapters totals)
       answers-fit zeros copy now room is fit written =
-          let same : take n copy ≡ counts = rw is (copy-is zeros room) in
+          let same : take n copy ≡ counts = rw is (counts-copied zeros room) in
           (answers true fit, written ∙ rw same (after (filing.Filed true) (answers true fit)))

@@ -12,7 +12,6 @@ use Rattle.base.specs.Lists.{table, sum}
 use Rattle.base.proofs.Tables.{length-table, getD-table}
 use Rattle.base.proofs.Sums.{sum-zeros, sum-single, sum-both}
 use Rattle.book.specs.Numbers.{clausesOf, formulaOf}
-use Rattle.layout.specs.Layout.{held}
 use Rattle.run.specs.Calls.{Call, reference}
 use Rattle.validation.specs.Validation.{readRefusal, callRefusal}
 use Rattle.session.specs.Outcomes.{totalAnswer, openRefusal, replayNumbers}
@@ -23,7 +22,7 @@ use Rattle.chapters.specs.Chapters.{chapterCount, chapterTotal, chapterT
 use Rattle.chapters.specs.declared.Filing.{Filing}
 use Rattle.chapters.specs.declared.Filing.the-variants as filing
 use Rattle.chapters.proofs.FitLaws.{Within, true-fit}
-use Rattle.chapters.proofs.AnswerLaws.{filed-passes, after}
+use Rattle.chapters.proofs.AnswerLaws.{filed-passes, counts, after}
 
 -- the totals of chapters that are not over 31, one for each count, add up to the sum of the counts
 sum-by-chapter : (counts chapters : List ℕ) → length counts ≤ length chapters → Within chapters (length counts)
@@ -39,26 +38,23 @@ sum-by-chapter (count ∷ counts) (chapter ∷ chapters) enough within =
     ∙ omega (arith, here, sum-by-chapter counts chapters (omega arith) (λ j h. within (suc j) (omega arith)))
 
 module _ (book session chapters totals : List ℕ) where
-  abbrev counts : List ℕ
-  counts = held (formulaOf book) session .checks
-
   abbrev answer : Filing
   answer = chapterAnswer book session chapters (length totals)
 
-  many : length (chapterTotals counts chapters) ≡ chapterCount
+  many : length (chapterTotals (counts book session) chapters) ≡ chapterCount
   unfolding chapterTotals
-  many = length-table chapterCount (λ (k : ℕ). chapterTotal k counts chapters)
+  many = length-table chapterCount (λ (k : ℕ). chapterTotal k (counts book session) chapters)
 
-  -- Where the answer is true, chapter 0's total is the first of what is written, and chapter 31's the last.
-  written : answer ≡ filing.Filed true → chapterNumbers book session chapters totals ≡ chapterTotals counts chapters ++ drop chapterCount totals
+  written : answer ≡ filing.Filed true → chapterNumbers book session chapters totals ≡ chapterTotals (counts book session) chapters ++ drop chapterCount totals
   written e = sym (after book session chapters totals (filing.Filed true) (sym e))
 
-  pub each-total : answer ≡ filing.Filed true → (k : ℕ) → k < chapterCount → getD (chapterNumbers book session chapters totals) k 0 ≡ chapterTotal k counts chapters
+  -- Where the answer is true, chapter k's total is written at place k.
+  pub each-total : answer ≡ filing.Filed true → (k : ℕ) → k < chapterCount → getD (chapterNumbers book session chapters totals) k 0 ≡ chapterTotal k (counts book session) chapters
   unfolding chapterTotals
   each-total e k h =
       ap (λ (numbers : List ℕ). getD numbers k 0) (written e)
-      ∙ List·getD-append (chapterTotals counts chapters) (drop chapterCount totals) 0 k (omega (arith, many))
-      ∙ getD-table chapterCount (λ (i : ℕ). chapterTotal i counts chapters) k 0 h
+      ∙ List·getD-append (chapterTotals (counts book session) chapters) (drop chapterCount totals) 0 k (omega (arith, many))
+      ∙ getD-table chapterCount (λ (i : ℕ). chapterTotal i (counts book session) chapters) k 0 h
 
   -- Together they are the session's total.
   pub chapters-total : answer ≡ filing.Filed true → totalAnswer book session ≡ total.Checks (sum (take chapterCount (chapterNumbers book session chapters totals)))
@@ -68,25 +64,25 @@ module _ (book session chapters totals : List ℕ) where
       let same = checks-count book session (passed .0) in
       sym
       (total-is book session (passed .0) _
-      (ap sum (ap (take chapterCount) (written e) ∙ take-at (chapterTotals counts chapters) (drop chapterCount totals) chapterCount many)
-      ∙ sum-by-chapter counts chapters (omega (arith, same, fit .enough)) (λ j h. fit .within j (omega (arith, same)))))
+      (ap sum (ap (take chapterCount) (written e) ∙ take-at (chapterTotals (counts book session) chapters) (drop chapterCount totals) chapterCount many)
+      ∙ sum-by-chapter (counts book session) chapters (omega (arith, same, fit .enough)) (λ j h. fit .within j (omega (arith, same)))))
 
   -- What is lent behind them stays, whatever is answered.
   pub behind-stays : drop chapterCount (chapterNumbers book session chapters totals) ≡ drop chapterCount totals
   unfolding chapterNumbers
   behind-stays = go answer
     where
-      go : (answer : Filing) → drop chapterCount (totalsAfter (chapterTotals counts chapters) totals answer) ≡ drop chapterCount totals
+      go : (answer : Filing) → drop chapterCount (totalsAfter (chapterTotals (counts book session) chapters) totals answer) ≡ drop chapterCount totals
       go (filing.Refused number) = refl
       go (filing.Filed false) = refl
-      go (filing.Filed true) = drop-at (chapterTotals counts chapters) (drop chapterCount totals) chapterCount many
+      go (filing.Filed true) = drop-at (chapterTotals (counts book session) chapters) (drop chapterCount totals) chapterCount many
 
   -- Where the answer is not true, nothing is written.
   pub nothing-written : (answer ≡ filing.Filed true → ⊥) → chapterNumbers book session chapters totals ≡ totals
   unfolding chapterNumbers
   nothing-written = go answer
     where
-      go : (answer : Filing) → (answer ≡ filing.Filed true → ⊥) → totalsAfter (chapterTotals counts chapters) totals answer ≡ totals
+      go : (answer : Filing) → (answer ≡ filing.Filed true → ⊥) → totalsAfter (chapterTotals (counts book session) chapters) totals answer ≡ totals
       go (filing.Refused number) other = refl
       go (filing.Filed false) other = refl
       go (filing.Filed true) other = absurd (other refl)

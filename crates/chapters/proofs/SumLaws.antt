@@ -50,11 +50,11 @@ module _ (before now : List ℕ) (e : now ≡ zeros ++ drop chapterCount before)
   zero-at k h =
       rw e (List·getD-append zeros (drop chapterCount before) 0 k (omega (arith, many-zeros)) ∙ getD-table chapterCount (λ (i : ℕ). 0) k 0 h)
 
-  pub cleared-length : chapterCount ≤ length before → length now ≡ length before
-  cleared-length roomy = rw (e, length-append zeros (drop chapterCount before), many-zeros, length-drop chapterCount before) (omega arith)
+  pub length-behind-clear : chapterCount ≤ length before → length now ≡ length before
+  length-behind-clear roomy = rw (e, length-append zeros (drop chapterCount before), many-zeros, length-drop chapterCount before) (omega arith)
 
-  cleared-behind : drop chapterCount now ≡ drop chapterCount before
-  cleared-behind = rw e (drop-at zeros (drop chapterCount before) chapterCount many-zeros)
+  behind-clear : drop chapterCount now ≡ drop chapterCount before
+  behind-clear = rw e (drop-at zeros (drop chapterCount before) chapterCount many-zeros)
 
 -- the counts of the first c clauses are added to the totals of their chapters; what lies behind the totals is as it was
 pub record Added (counts chapters before now : List ℕ) (c : ℕ) : Type 0 where
@@ -115,5 +115,5 @@ module _ (counts chapters : List ℕ) where
         let whole : (k : ℕ) → k < chapterCount → getD now k 0 ≡ chapterTotal k counts chapters
         = λ k h. let none : chapterTotal k (drop c counts) (drop c chapters) ≡ 0 = rw (drop-of-length-le counts done) in omega (arith, none, a .rest k h) in
         sym (take-append-drop chapterCount now)
-        ∙ ap₂ _++_ (part-table now 0 chapterCount (omega (arith, a .length-same, cleared-length buffer before e roomy)) (λ (k : ℕ). chapterTotal k counts chapters) (λ k h. rw (zero-add k) (whole k h)))
-        (a .behind ∙ cleared-behind buffer before e)
+        ∙ ap₂ _++_ (part-table now 0 chapterCount (omega (arith, a .length-same, length-behind-clear buffer before e roomy)) (λ (k : ℕ). chapterTotal k counts chapters) (λ k h. rw (zero-add k) (whole k h)))
+        (a .behind ∙ behind-clear buffer before e)

@@ -34,10 +34,10 @@ ones zero = bytes "0\n"
 ones (suc n) = bytes "1 " ++ ones n
 
 -- one feature, one rule that is always met, and the session that an opening of it leaves
-abbrev alwaysMet : Formula
+abbrev pub alwaysMet : Formula
 alwaysMet = record { variables = 1; clauses = [] ∷ [] }
 
-abbrev idle : List ℕ
+abbrev pub idle : List ℕ
 idle = replicate (requiredLength 1 1) 0
 
 pub record Points : Type 0 where

@@ -1,24 +1,23 @@
 -- Points of request K6, evaluated: the totals of chapters, what is answered by true, by false and by a refusal, and the lent totals afterwards.
 use Prim.Native.Nat.{ℕ, suc}
 use mathlib.Core.Path.{_≡_, refl}
+use mathlib.Core.Bool.{true, false}
 use mathlib.Core.List.{List, [], _∷_, _++_}
-use Rattle.base.specs.Lists.{all, any, keep, flat, member, distinct, same, times, table, upTo, without}
-use Rattle.book.specs.Formula.{Formula, positive, negative, literalWithin, soundClause, sound}
+use lib.ListN.{set, take, replicate}
+use Rattle.base.specs.Lists.{all, any, keep, flat, member, distinct, same, times, table, upTo, sum, without}
+use Rattle.book.specs.Formula.{literalWithin, soundClause, sound}
 use Rattle.book.specs.Numbers.{starts, numbersOf, clausesFrom, rising, wellFormed}
 use Rattle.run.specs.Trail.{opposite, place, literalAt, isTrue, decisions, level, lowered, cut}
 use Rattle.run.specs.Scan.{watched, next, oneMore, scanFrom, scan}
-use Rattle.run.specs.Run.{pushFront, takeOut, addChecks, otherWatch, moved, scannedAction, action, onTrail, withWatches, withConflict, counted, performAction, visit, readList, propagateFrom, firstCell, watchAll, fresh, assignUnit, assignUnits, openRun, decide, backtrack, fix}
-use Rattle.run.specs.Calls.{Call, decision, backtrackBy, fixBy, decideRefusal, backtrackRefusal, fixRefusal, refusal, performCall, step, stepAll, reference}
-use Rattle.layout.specs.Layout.{lengthAt, valueNumber, levelNumber, nodeOf, watchLiteral, firstNode, behind, headNumber, linkNumber, watchNumber, encode, levelBefore, heldTrail, heldCells, chainFrom, heldLists, held}
+use Rattle.run.specs.Run.{pushFront, takeOut, addChecks, otherWatch, moved, scannedAction, action, onTrail, withWatches, counted, performAction, visit, readList, propagateFrom, firstCell, watchAll, fresh, assignUnit, assignUnits, openRun, decide, backtrack}
+use Rattle.run.specs.Calls.{decideRefusal, backtrackRefusal, refusal, performCall, step, stepAll, reference}
+use Rattle.layout.specs.Layout.{lengthAt, checksAt, valueNumber, levelNumber, nodeOf, watchLiteral, firstNode, behind, headNumber, linkNumber, watchNumber, encode, levelBefore, heldTrail, heldCells, chainFrom, heldLists, held}
 use Rattle.validation.specs.Validation.{hasReason, isJustified, isWatching, isGuarded, watchesHold, isFixpoint, isConflict, isListed, isValid, passes, callRefusal, readRefusal}
-use mathlib.Core.Bool.{true, false}
-use lib.ListN.{length, set, take, replicate}
-use Rattle.base.specs.Lists.{sum}
-use Rattle.layout.specs.Layout.{checksAt}
 use Rattle.chapters.specs.Chapters.{chapterTotal, chapterTotals, chaptersFit, chapterAnswer, chapterNumbers}
 use Rattle.chapters.specs.declared.Filing.{Filing}
 use Rattle.chapters.specs.declared.Filing.the-variants.{Filed, Refused}
 use Rattle.points.specs.Points.{listing, calls, noClauses}
+use Rattle.points.specs.K4.{alwaysMet, idle}
 
 -- the listing's book and the session that its calls leave, with counts 3, 0 and 1
 abbrev book : List ℕ
@@ -67,11 +66,14 @@ pub record Points : Type 0 where
   pub refused-left : chapterNumbers book (set session lengthAt 9) (0 ∷ 31 ∷ 0 ∷ []) (lent 32) ≡ lent 32
   -- Three full counts in one chapter.
   pub full-counts : chapterNumbers book full (5 ∷ 5 ∷ 5 ∷ []) (lent 32) ≡ replicate 5 0 ++ (12884901885 ∷ replicate 26 0)
+  -- A rule that is always met has a chapter like any other.
+  pub always-met : chapterNumbers (numbersOf alwaysMet) (set idle (checksAt 1 1) 9) (31 ∷ []) (lent 32) ≡ replicate 31 0 ++ (9 ∷ [])
+  pub always-met-over : chapterAnswer (numbersOf alwaysMet) idle (32 ∷ []) 32 ≡ Filed false
   -- A book without rules needs no chapters.
   pub no-clauses : chapterNumbers (numbersOf (noClauses 4)) (encode (noClauses 4) (openRun (noClauses 4))) [] (lent 32) ≡ replicate 32 0
 
 pub points : Points
-unfolding chapterTotal chapterTotals chaptersFit chapterAnswer chapterNumbers any distinct times table upTo soundClause sound starts numbersOf clausesFrom rising wellFormed valueNumber levelNumber nodeOf watchLiteral firstNode behind headNumber linkNumber watchNumber encode levelBefore heldTrail heldCells chainFrom heldLists held hasReason isJustified isWatching isGuarded watchesHold isFixpoint isConflict isListed isValid passes callRefusal readRefusal all flat member same literalWithin opposite place literalAt isTrue decisions level lowered cut watched next oneMore scanFrom scan pushFront without takeOut addChecks otherWatch moved scannedAction action onTrail withWatches withConflict counted performAction visit readList propagateFrom firstCell watchAll fresh assignUnit assignUnits openRun decide backtrack fix decideRefusal backtrackRefusal fixRefusal refusal performCall step stepAll reference keep sum
+unfolding chapterTotal chapterTotals chaptersFit chapterAnswer chapterNumbers any distinct times table upTo soundClause sound starts numbersOf clausesFrom rising wellFormed valueNumber levelNumber nodeOf watchLiteral firstNode behind headNumber linkNumber watchNumber encode levelBefore heldTrail heldCells chainFrom heldLists held hasReason isJustified isWatching isGuarded watchesHold isFixpoint isConflict isListed isValid passes callRefusal readRefusal all flat member same literalWithin opposite place literalAt isTrue decisions level lowered cut watched next oneMore scanFrom scan pushFront without takeOut addChecks otherWatch moved scannedAction action onTrail withWatches counted performAction visit readList propagateFrom firstCell watchAll fresh assignUnit assignUnits openRun decide backtrack decideRefusal backtrackRefusal refusal performCall step stepAll reference keep sum
 points =
     record {
       counts = refl;
@@ -92,5 +94,7 @@ points =
       session-at-fault = refl;
       refused-left = refl;
       full-counts = refl;
+      always-met = refl;
+      always-met-over = refl;
       no-clauses = refl;
     }

@@ -3,7 +3,7 @@ pub mod CallLaws
 pub mod OpenLaws
 pub mod PassedLaws
 pub mod AnswerLaws
-pub mod OutcomeLaws
+pub mod ToldLaws
 pub mod LookupLaws
 pub mod ReportLaws
 pub mod Statements

@@ -1,0 +1,79 @@
+/* Makes the session of a script on a tariff and says of each chapter of the tariff how many rules it has and what checks they have cost.
+ * A comment `c == Liability` of the tariff is a heading and begins a chapter; the first is chapter 0. */
+#include "follow.h"
+
+static uint32_t headings;
+static const char *names[TARIFF_CHAPTERS];
+static uint32_t sizes[TARIFF_CHAPTERS]; /* how many rules begin under each heading */
+static size_t rules;
+static uint32_t chapters[TARIFF_RULES]; /* the chapter of each of them, rule 1 first */
+
+/* A byte 13 at the end of its line is no part of the name. */
+static void begin_chapter(char *name) {
+    if (headings == TARIFF_CHAPTERS) fail("the tariff has more than 32 headings");
+    name[strcspn(name, "\r")] = '\0';
+    names[headings++] = name;
+}
+
+/* A rule belongs to the last heading before its first number. */
+static void file_rule(void) {
+    if (headings == 0) fail("a rule begins before the first heading");
+    chapters[rules++] = headings - 1;
+    sizes[headings - 1]++;
+}
+
+/* A rule begins at the first number behind the 0 of the rule before, and may run over lines. */
+static void file_numbers(const char *line) {
+    static int closed = 1;
+    char *end;
+    for (long number = strtol(line, &end, 10); end != line; number = strtol(line, &end, 10)) {
+        if (closed) file_rule();
+        closed = number == 0;
+        line = end;
+    }
+}
+
+/* A comment is passed over, inside a rule too, and nothing is filed by the header, whose first word `p` is no number. */
+static void file_rules(void) {
+    for (char *line = strtok(text, "\n"); line; line = strtok(NULL, "\n")) {
+        if (strncmp(line, "c == ", 5) == 0) begin_chapter(line + 5);
+        else if (line[0] != 'c') file_numbers(line);
+    }
+}
+
+static void expect_accepted(uint64_t answer) {
+    if (tariff_kind(answer) != TARIFF_ACCEPTED) fail("the session is refused");
+}
+
+static void say_count(uint64_t count, const char *word) {
+    printf("%llu %s%s", (unsigned long long)count, word, count == 1 ? "" : "s");
+}
+
+/* The totals are written only where the answer is true; false is accepted, too. */
+static void say_chapters(void) {
+    uint64_t totals[TARIFF_CHAPTERS], total;
+    uint64_t answer = tariff_chapters(book, TARIFF_BOOK, session, needed, chapters, rules, totals, TARIFF_CHAPTERS);
+    expect_accepted(answer);
+    if (!tariff_filed(answer)) fail("the chapters do not fit the rules");
+    for (uint32_t chapter = 0; chapter < headings; chapter++) {
+        printf("%3u %s: ", chapter, names[chapter]);
+        say_count(sizes[chapter], "rule");
+        printf(", ");
+        say_count(totals[chapter], "check");
+        printf("\n");
+    }
+    expect_accepted(tariff_total(book, TARIFF_BOOK, session, needed, &total));
+    say_count(total, "check");
+    printf(" in all\n");
+}
+
+int main(int count, char **words) {
+    program = "chapters";
+    if (count != 3) fail("usage: chapters TARIFF SCRIPT");
+    read_tariff(words[1]);
+    file_rules();
+    open_session();
+    follow(words[2]);
+    say_chapters();
+    return 0;
+}

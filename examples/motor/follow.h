@@ -1,0 +1,92 @@
+/* Shared by the examples that follow a script: reads a tariff, opens a session on it and makes the choices and take-backs of the script. */
+#ifndef FOLLOW_H
+#define FOLLOW_H
+#include <tariff.h>
+#include <stdio.h>
+#include <stdlib.h>
+#include <string.h>
+
+static const char *program; /* its name, which main sets */
+static char text[60002];    /* a byte more than a tariff may have, and a 0 */
+static uint32_t book[TARIFF_BOOK];
+static uint32_t session[TARIFF_SESSION];
+static size_t needed;
+static uint32_t choices;                     /* in force */
+static uint32_t chosen[TARIFF_FEATURES + 1]; /* the feature of each of them, from choice 1 on */
+
+/* What the program does where the opening or a choice contradicts a rule; nothing, unless main sets it. */
+static void (*at_contradiction)(uint32_t rule);
+
+static void fail(const char *what) {
+    fprintf(stderr, "%s: %s\n", program, what);
+    exit(1);
+}
+
+/* A byte 0, which only a comment of an accepted tariff can hold, would end the text; it is replaced. */
+static void read_tariff(const char *path) {
+    FILE *file = fopen(path, "rb");
+    if (!file) fail("no such tariff");
+    size_t length = fread(text, 1, sizeof text - 1, file);
+    fclose(file);
+    if (tariff_kind(tariff_read((const uint8_t *)text, length, book, TARIFF_BOOK)) != TARIFF_ACCEPTED) fail("the tariff is refused");
+    for (size_t i = 0; i < length; i++)
+        if (text[i] == '\0') text[i] = '?';
+}
+
+static void tell_contradiction(uint64_t answer) {
+    if (tariff_kind(answer) == TARIFF_CONFLICT && at_contradiction) at_contradiction(tariff_number(answer));
+}
+
+static void open_session(void) {
+    needed = tariff_number(tariff_required_length(book, TARIFF_BOOK));
+    tell_contradiction(tariff_open(book, TARIFF_BOOK, session, needed));
+}
+
+/* A refused choice changes nothing; one that contradicts a rule is in force until it is taken back. */
+static void choose(uint32_t feature, uint32_t literal) {
+    uint64_t answer = tariff_decide(book, TARIFF_BOOK, session, needed, literal);
+    if (tariff_kind(answer) == TARIFF_REFUSED) return;
+    chosen[++choices] = feature;
+    tell_contradiction(answer);
+}
+
+static void take_back(uint32_t k) {
+    if (tariff_kind(tariff_backtrack(book, TARIFF_BOOK, session, needed, k)) == TARIFF_ACCEPTED) choices -= k;
+}
+
+/* A number is one to nine digits, and nothing else. */
+static int read_number(const char *word, uint32_t *number) {
+    size_t length = strspn(word, "0123456789");
+    if (length < 1 || length > 9 || word[length] != '\0') return 0;
+    *number = (uint32_t)strtoul(word, NULL, 10);
+    return 1;
+}
+
+/* A line is a feature, wanted, or with `-` in front barred, or `b k`; any other is passed over, as `desk` refuses it. */
+static void follow_line(const char *line) {
+    uint32_t number;
+    if (strncmp(line, "b ", 2) == 0) {
+        if (read_number(line + 2, &number)) take_back(number);
+    } else if (line[0] == '-') {
+        if (read_number(line + 1, &number)) choose(number, tariff_barred(number));
+    } else if (read_number(line, &number)) {
+        choose(number, tariff_wanted(number));
+    }
+}
+
+/* Of a line 15 bytes are kept, more than a choice or a take-back has; a byte 0 is in neither. */
+static void follow(const char *path) {
+    FILE *file = fopen(path, "r");
+    if (!file) fail("no such script");
+    for (int byte = 0; byte != EOF;) {
+        char line[16];
+        size_t length = 0;
+        while ((byte = fgetc(file)) != '\n' && byte != EOF)
+            if (length < sizeof line - 1) line[length++] = byte == 0 ? '?' : (char)byte;
+        line[length] = '\0';
+        follow_line(line);
+    }
+    fclose(file);
+}
+
+#endif
