@@ -13,7 +13,7 @@ extern "C" {
 #define TARIFF_BOOK 7504
 #define TARIFF_SESSION 11505
 
-/* The chapters that rules are filed in: 0 to 31. */
+/* How many chapters rules are filed in; they are 0 to 31. */
 #define TARIFF_CHAPTERS 32
 
 /* An answer is its kind times 2^32, and a number. */
@@ -38,7 +38,7 @@ static inline uint32_t tariff_barred(uint32_t feature) { return 2 * feature + 1;
 static inline uint32_t tariff_state(uint64_t answer) { return tariff_kind(answer) == TARIFF_ACCEPTED ? tariff_number(answer) % 4 : TARIFF_IS_REFUSED; }
 static inline uint32_t tariff_level(uint64_t answer) { return tariff_number(answer) / 4; }
 
-/* Whether checks by chapter are written: 1 if so; 0 if the chapters or the lent sums do not fit, which is no refusal, and if the call is refused. */
+/* What tariff_chapters says: 1 if it wrote the totals, else 0, where it answers false and where it refuses. */
 static inline uint32_t tariff_filed(uint64_t answer) { return answer == 1; }
 
 /* The places of the figures, and how many there are. */
@@ -120,7 +120,8 @@ uint64_t tariff_total(const uint32_t *book, size_t book_length, const uint32_t *
 
 /* The checks that each chapter of rules has cost. `chapters` has a chapter for each rule, 0 to 31, rule 1 first; what lies behind these is not looked at.
  * Accepted: 1, true: writes the 32 sums to `totals`, chapter 0 first, and nothing behind them; together they are the sum of all checks. Or 0, false, where a
- * rule's chapter is over 31, there are fewer chapters than rules, or `totals` is shorter than 32: writes nothing. Only tariff_filed tells true from the rest.
+ * rule's chapter is over 31, there are fewer chapters than rules, or `totals` is shorter than 32: writes nothing.
+ * False is accepted, and a refusal is not 0: ask tariff_filed whether the totals are written.
  * Refuses: 11, 12. */
 uint64_t tariff_chapters(const uint32_t *book, size_t book_length, const uint32_t *session, size_t session_length,
                          const uint32_t *chapters, size_t chapters_length, uint64_t *totals, size_t totals_length);

@@ -84,6 +84,10 @@ spellings=('s/$/\r/' '/^[cp]/!s/ /\n/g' '/^[cp]/!s/ /\nc 0\n/g' '/^[cp]/!s/ 0$/ 
 prints_the_same "${spellings[@]}"
 written '/^c == Liability$/d'
 says "$name.sanitized" 'a rule begins before the first heading'
+written '/^c == Usage$/s/== /==/'
+says "$name.sanitized" 'a heading is not `c ==`, a blank and a name'
+written '/^c == Usage$/s/Usage//'
+says "$name.sanitized" 'a heading is not `c ==`, a blank and a name'
 written "$(headed 33)"
 says "$name.sanitized" 'the tariff has more than 32 headings'
 written "$(headed 32)"

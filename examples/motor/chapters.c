@@ -8,11 +8,13 @@ static uint32_t sizes[TARIFF_CHAPTERS]; /* how many rules begin under each headi
 static size_t rules;
 static uint32_t chapters[TARIFF_RULES]; /* the chapter of each of them, rule 1 first */
 
-/* A byte 13 at the end of its line is no part of the name. */
-static void begin_chapter(char *name) {
+/* Behind `c ==` stand a blank and the name; a byte 13 at the end of the line is no part of it. */
+static void begin_chapter(char *words) {
+    size_t length = strlen(words);
+    if (length > 0 && words[length - 1] == '\r') words[--length] = '\0';
+    if (length < 2 || words[0] != ' ') fail("a heading is not `c ==`, a blank and a name");
     if (headings == TARIFF_CHAPTERS) fail("the tariff has more than 32 headings");
-    name[strcspn(name, "\r")] = '\0';
-    names[headings++] = name;
+    names[headings++] = words + 1;
 }
 
 /* A rule belongs to the last heading before its first number. */
@@ -36,7 +38,7 @@ static void file_numbers(const char *line) {
 /* A comment is passed over, inside a rule too, and nothing is filed by the header, whose first word `p` is no number. */
 static void file_rules(void) {
     for (char *line = strtok(text, "\n"); line; line = strtok(NULL, "\n")) {
-        if (strncmp(line, "c == ", 5) == 0) begin_chapter(line + 5);
+        if (strncmp(line, "c ==", 4) == 0) begin_chapter(line + 4);
         else if (line[0] != 'c') file_numbers(line);
     }
 }

@@ -11,11 +11,13 @@
 #include "../counts/judge.hpp"
 #include "lending.hpp"
 
-// A way to file: the library's call, or another one in its place; and so for the counts and the total that it is compared with.
+// A way to file: the library's call, or another one in its place; and so for what the header says of its answer, and for the counts and the total that it
+// is compared with.
 using Method = std::function<uint64_t(Lending&)>;
 
 struct Ways {
     Method file = by_library;
+    std::function<uint32_t(uint64_t)> filed = tariff_filed;
     std::function<uint64_t(const Lending&, Numbers&)> counts = copy_counts;
     std::function<uint64_t(const Lending&, uint64_t&)> total = copy_total;
 };
@@ -63,25 +65,25 @@ void compare_memory(const std::vector<Number>& memory, const std::vector<Number>
     for (size_t i = 0; i < expected.size(); i++) compare_number(memory[i], expected[i], name, i);
 }
 
-// The first 32 totals, which are written, are together what `tariff_total` writes.
-inline void compare_sum(const Lending& lent, const Ways& ways) {
+// The first 32 totals, which are written, are together what `tariff_total` writes of what was lent before.
+inline void compare_sum(const Sums& totals, const Lending& before, const Ways& ways) {
     uint64_t sum = 0;
-    compare_number(ways.total(lent, sum), 0, "answer to the total", 0);
-    compare_number(std::accumulate(lent.totals.memory.begin(), lent.totals.memory.begin() + CHAPTERS, uint64_t{0}), sum, "sum of totals", CHAPTERS);
+    compare_number(ways.total(before, sum), 0, "answer to the total", 0);
+    compare_number(std::accumulate(totals.begin(), totals.begin() + CHAPTERS, uint64_t{0}), sum, "sum of totals", CHAPTERS);
 }
 
-// A call in one of these ways; the number by which the examination refuses is known, if any. What was due.
+// A call in one of these ways. The number by which the examination refuses, 0 where it does not, is held to what is due where it is known. What was due.
 inline Due compare_filing(Lending lent, std::optional<uint64_t> refusal, const Ways& ways) {
     const Lending before = lent;
     Due due = due_of(lent, ways);
     if (refusal) compare_number(due.refused() ? tariff_number(due.answer) : 0, *refusal, "refusal of the checks", 0);
     uint64_t answer = ways.file(lent);
     compare_number(answer, due.answer, "answer with lent totals", lent.totals.length);
-    compare_number(tariff_filed(answer), due.answer == FILED, "what tariff_filed says with lent totals", lent.totals.length);
+    compare_number(ways.filed(answer), due.answer == FILED, "what tariff_filed says with lent totals", lent.totals.length);
     compare_memory(lent.totals.memory, due.totals, "total");
     compare_memory(lent.book.memory, before.book.memory, "number of the book");
     compare_memory(lent.session.memory, before.session.memory, "number of the session");
     compare_memory(lent.chapters.memory, before.chapters.memory, "chapter of rule, from 0,");
-    if (due.answer == FILED) compare_sum(lent, ways);
+    if (due.answer == FILED) compare_sum(lent.totals.memory, before, ways);
     return due;
 }

@@ -1,4 +1,4 @@
-// What a call on chapters is lent: each part is the first of a memory that holds more, which the call must not look at or write.
+// What a call on chapters is lent: each part is the first of a memory that may hold more, which the call must not look at or write.
 #pragma once
 #include <cstddef>
 #include <cstdint>

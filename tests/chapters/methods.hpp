@@ -1,4 +1,5 @@
-// Other ways to file than the library's call: wrong ones, most of which change what that is lent or what it leaves, and right ones.
+// Other ways to file than the library's call: wrong ones, most of which change what that is lent or what it leaves, and right ones; and wrong ones of what
+// it is compared with.
 #pragma once
 #include <algorithm>
 #include <cstddef>
@@ -280,9 +281,9 @@ inline std::vector<Named> wrong_chapters() {
 inline std::vector<Named> wrong_totals() {
     return {
         {"32 totals refused", false_where([](const Lending& other) { return other.totals.length == CHAPTERS; })},
-        {"33 totals refused", false_where([](const Lending& other) { return other.totals.length > CHAPTERS; })},
+        {"more totals refused", false_where([](const Lending& other) { return other.totals.length > CHAPTERS; })},
         {"many totals refused", false_where([](const Lending& other) { return other.totals.length > 255; })},
-        {"31 totals filled", fill_room},
+        {"fewer totals filled", fill_room},
         {"32 totals written in any room", lent_otherwise([](Lending& other) { other.totals.length = CHAPTERS; })},
         {"lent totals counted in", totals_as([](uint64_t total, uint64_t before) { return total + before; })},
         {"the first total not cleared", where_filed([](Sums& totals, const Lending& before) { totals[0] += before.totals.memory[0]; })},
@@ -321,7 +322,7 @@ inline std::vector<Named> wrong_sums() {
 inline std::vector<Named> wrong_answers() {
     return {
         {"false before 11 and 12", then(false_first)},
-        {"12 before 11", then(session_first)},
+        {"12 before 11 where there is no header", then(session_first)},
         {"12 for 11", answer_as([](uint64_t answer) { return answer == c_refusal(11) ? c_refusal(12) : answer; })},
         {"11 for 12", answer_as([](uint64_t answer) { return answer == c_refusal(12) ? c_refusal(11) : answer; })},
         {"false for a refusal", answer_as([](uint64_t answer) { return is_refused(answer) ? NOT_FILED : answer; })},
@@ -341,20 +342,25 @@ inline std::vector<Named> wrong_answers() {
     };
 }
 
-// Wrong in what the call is compared with: the counts of the checks and the session's total.
+// Wrong in what the call is compared with, the counts of the checks and the session's total, and in what the header says of its answer.
 inline std::vector<Named> wrong_others() {
-    Ways eleven, low, refused;
-    eleven.counts = [](const Lending& lent, Numbers& counts) {
-        uint64_t answer = copy_counts(lent, counts);
-        return answer == c_refusal(11) ? c_refusal(12) : answer;
-    };
+    Ways eleven, low, refused, nonzero, accepted;
+    auto as_12 = [](uint64_t answer) { return answer == c_refusal(11) ? c_refusal(12) : answer; };
+    eleven.counts = [=](const Lending& lent, Numbers& counts) { return as_12(copy_counts(lent, counts)); };
+    eleven.file = answer_as(as_12);
     low.total = [](const Lending& lent, uint64_t& sum) {
         uint64_t answer = copy_total(lent, sum);
         sum &= 0xffffffffu;
         return answer;
     };
-    refused.total = [](const Lending&, uint64_t&) { return c_refusal(12); };
-    return {{"the checks refused by 12 for 11", eleven}, {"the session's total in 32 bits", low}, {"the session's total refused", refused}};
+    refused.total = [](const Lending& lent, uint64_t& sum) {
+        copy_total(lent, sum);
+        return c_refusal(12);
+    };
+    nonzero.filed = [](uint64_t answer) { return uint32_t{answer != 0}; };
+    accepted.filed = [](uint64_t answer) { return uint32_t{tariff_kind(answer) == TARIFF_ACCEPTED}; };
+    return {{"the checks and the call refused by 12 for 11", eleven}, {"the session's total in 32 bits", low}, {"the session's total refused", refused},
+            {"a refusal taken for true", nonzero}, {"false taken for true", accepted}};
 }
 
 inline std::vector<Named> wrong_list() {

@@ -83,7 +83,7 @@ abbrev pub sumAfter : Sum → ℕ → ℕ
 sumAfter (total.Checks checks) before = checks
 sumAfter (total.Refused number) before = before
 
--- checks by chapter: 1 where the totals are written (true), 0 where the chapters do not fit (false), or the refusal
+-- checks by chapter: 1 where the totals are written (true), 0 where the chapters or the room for the totals do not fit (false), or the refusal
 abbrev pub filingCode : Filing → ℕ
 filingCode (filing.Filed true) = 1
 filingCode (filing.Filed false) = 0

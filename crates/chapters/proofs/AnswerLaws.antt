@@ -43,6 +43,24 @@ module _ (book session : List ℕ) where
   unfolding copyAnswer
   told-refusal n e = outcome-refused (readRefusal book session) (length counts) n (count-refused n _ e)
 
+  -- where a count is told, it is that of the clauses, and a copy of so many numbers has all counts in front
+  module _ (n : ℕ) (e : count.Of n ≡ copyAnswer book session checksOfRun) where
+    none : 0 ≡ readRefusal book session
+    none = told-count n e .0
+
+    clauses-told : n ≡ clausesOf book
+    clauses-told = sym (told-count n e .1) ∙ checks-count book session none
+
+    pub few-told : n ≤ maxClauses
+    few-told = omega (arith, clauses-told, few-clauses book session none)
+
+    counts-copied : (zeros : List ℕ) → length zeros ≡ maxClauses → take n (copyNumbers book session checksOfRun zeros) ≡ counts
+    unfolding copyNumbers
+    counts-copied zeros room =
+        let all-of-them : take (length zeros) counts ≡ counts = take-all (length zeros) counts (omega (arith, room, few-told, told-count n e .1)) in
+        let size : n ≡ length (take (length zeros) counts) = sym (told-count n e .1) ∙ ap length (sym all-of-them) in
+        rw (← none, size, take-copy counts zeros) all-of-them
+
   module _ (chapters totals : List ℕ) where
     -- the lent totals follow the answer
     pub after : (answer : Filing) → answer ≡ chapterAnswer book session chapters (length totals)
@@ -59,34 +77,17 @@ module _ (book session : List ℕ) where
         (is, after (filing.Refused n) is)
 
     module _ (n : ℕ) (e : count.Of n ≡ copyAnswer book session checksOfRun) where
-      none : 0 ≡ readRefusal book session
-      none = told-count n e .0
-
-      clauses-told : n ≡ clausesOf book
-      clauses-told = sym (told-count n e .1) ∙ checks-count book session none
-
-      pub few-told : n ≤ maxClauses
-      few-told = omega (arith, clauses-told, few-clauses book session none)
-
       answers : (fit : Bool) → fit ≡ chaptersFit n chapters (length totals) → filing.Filed fit ≡ chapterAnswer book session chapters (length totals)
       unfolding chapterAnswer
-      answers fit is = rw (← none, ← clauses-told, ← is)
+      answers fit is = rw (← none n e, ← clauses-told n e, ← is)
 
       pub answers-unfit : false ≡ chaptersFit n chapters (length totals)
           → (filing.Filed false ≡ chapterAnswer book session chapters (length totals)) × (totals ≡ chapterNumbers book session chapters totals)
       answers-unfit unfit = (answers false unfit, after (filing.Filed false) (answers false unfit))
 
-      -- the copy has room for all counts
-      counts-copied : (zeros : List ℕ) → length zeros ≡ maxClauses → take n (copyNumbers book session checksOfRun zeros) ≡ counts
-      unfolding copyNumbers
-      counts-copied zeros room =
-          let all-of-them : take (length zeros) counts ≡ counts = take-all (length zeros) counts (omega (arith, room, few-told, told-count n e .1)) in
-          let size : n ≡ length (take (length zeros) counts) = sym (told-count n e .1) ∙ ap length (sym all-of-them) in
-          rw (← none, size, take-copy counts zeros) all-of-them
-
       pub answers-fit : (zeros copy now : List ℕ) → length zeros ≡ maxClauses → copy ≡ copyNumbers book session checksOfRun zeros
           → true ≡ chaptersFit n chapters (length totals) → now ≡ chapterTotals (take n copy) chapters ++ drop chapterCount totals
           → (filing.Filed true ≡ chapterAnswer book session chapters (length totals)) × (now ≡ chapterNumbers book session chapters totals)
       answers-fit zeros copy now room is fit written =
-          let same : take n copy ≡ counts = rw is (counts-copied zeros room) in
+          let same : take n copy ≡ counts = rw is (counts-copied n e zeros room) in
           (answers true fit, written ∙ rw same (after (filing.Filed true) (answers true fit)))

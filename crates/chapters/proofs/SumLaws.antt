@@ -50,11 +50,11 @@ module _ (before now : List ℕ) (e : now ≡ zeros ++ drop chapterCount before)
   zero-at k h =
       rw e (List·getD-append zeros (drop chapterCount before) 0 k (omega (arith, many-zeros)) ∙ getD-table chapterCount (λ (i : ℕ). 0) k 0 h)
 
-  pub length-behind-clear : chapterCount ≤ length before → length now ≡ length before
-  length-behind-clear roomy = rw (e, length-append zeros (drop chapterCount before), many-zeros, length-drop chapterCount before) (omega arith)
+  pub length-after-clear : chapterCount ≤ length before → length now ≡ length before
+  length-after-clear roomy = rw (e, length-append zeros (drop chapterCount before), many-zeros, length-drop chapterCount before) (omega arith)
 
-  behind-clear : drop chapterCount now ≡ drop chapterCount before
-  behind-clear = rw e (drop-at zeros (drop chapterCount before) chapterCount many-zeros)
+  behind-after-clear : drop chapterCount now ≡ drop chapterCount before
+  behind-after-clear = rw e (drop-at zeros (drop chapterCount before) chapterCount many-zeros)
 
 -- the counts of the first c clauses are added to the totals of their chapters; what lies behind the totals is as it was
 pub record Added (counts chapters before now : List ℕ) (c : ℕ) : Type 0 where
@@ -63,6 +63,15 @@ pub record Added (counts chapters before now : List ℕ) (c : ℕ) : Type 0 wher
   pub behind : drop chapterCount now ≡ drop chapterCount before
   pub rest : (k : ℕ) → k < chapterCount → getD now k 0 + chapterTotal k (drop c counts) (drop c chapters) ≡ chapterTotal k counts chapters
   pub small : (k : ℕ) → k < chapterCount → getD now k 0 ≤ maxCount * c
+
+-- what a count adds to the number at place k
+stored : (now : List ℕ) (chapter n : ℕ) → chapter < length now → (k : ℕ)
+    → (getD (set now chapter (getD now chapter 0 + n)) k 0 ≡ getD now k 0 + cond (eqb chapter k) n 0) × (cond (eqb chapter k) n 0 ≤ n)
+stored now chapter n h k =
+    ⊎-elim
+    (λ e. rw (eq-eqb chapter k (sym e), e, getD-set-same now chapter (getD now chapter 0 + n) 0 h) (refl, omega arith))
+    (λ m. rw (ne-eqb chapter k (λ e. m (sym e)), getD-set-other now chapter k (getD now chapter 0 + n) 0 m) (omega arith, omega arith))
+    (alike k chapter)
 
 module _ (counts chapters : List ℕ) where
   pub added-none : (before now : List ℕ) → now ≡ zeros ++ drop chapterCount before → Added counts chapters now now 0
@@ -75,23 +84,14 @@ module _ (counts chapters : List ℕ) where
         small = λ k h. omega (arith, zero-at before now e k h);
       }
 
+  -- the total of chapter k from clause c on
+  from : (c k : ℕ) → c < length counts → c < length chapters
+      → chapterTotal k (drop c counts) (drop c chapters)
+      ≡ cond (eqb (getD chapters c 0) k) (getD counts c 0) 0 + chapterTotal k (drop (c + 1) counts) (drop (c + 1) chapters)
+  unfolding chapterTotal
+  from c k h g = rw (add-one c, drop-cons counts c 0 h, drop-cons chapters c 0 g)
+
   module _ (before now : List ℕ) (c : ℕ) (a : Added counts chapters before now c) where
-    -- the total of chapter k from clause c on
-    from : (k : ℕ) → c < length counts → c < length chapters
-        → chapterTotal k (drop c counts) (drop c chapters)
-        ≡ cond (eqb (getD chapters c 0) k) (getD counts c 0) 0 + chapterTotal k (drop (c + 1) counts) (drop (c + 1) chapters)
-    unfolding chapterTotal
-    from k h g = rw (add-one c, drop-cons counts c 0 h, drop-cons chapters c 0 g)
-
-    -- what a count adds to the total at place k
-    stored : (chapter n : ℕ) → chapter < length now → (k : ℕ)
-        → (getD (set now chapter (getD now chapter 0 + n)) k 0 ≡ getD now k 0 + cond (eqb chapter k) n 0) × (cond (eqb chapter k) n 0 ≤ n)
-    stored chapter n h k =
-        ⊎-elim
-        (λ e. rw (eq-eqb chapter k (sym e), e, getD-set-same now chapter (getD now chapter 0 + n) 0 h) (refl, omega arith))
-        (λ m. rw (ne-eqb chapter k (λ e. m (sym e)), getD-set-other now chapter k (getD now chapter 0 + n) 0 m) (omega arith, omega arith))
-        (alike k chapter)
-
     pub added-more : (chapter n : ℕ) → c < length counts → c < length chapters → chapterCount ≤ length before
         → chapter ≡ getD chapters c 0 → chapter < chapterCount → n ≡ getD counts c 0 → n ≤ maxCount
         → Added counts chapters before (set now chapter (getD now chapter 0 + n)) (c + 1)
@@ -103,9 +103,9 @@ module _ (counts chapters : List ℕ) where
           behind = drop-set-lt chapterCount now chapter (getD now chapter 0 + n) low ∙ a .behind;
           rest = λ k below.
               let next : chapterTotal k (drop c counts) (drop c chapters) ≡ cond (eqb chapter k) n 0 + chapterTotal k (drop (c + 1) counts) (drop (c + 1) chapters)
-              = rw (is, count) (from k h g) in
-              omega (arith, next, stored chapter n here k .0, a .rest k below);
-          small = λ k below. omega (arith, stored chapter n here k, a .small k below);
+              = rw (is, count) (from c k h g) in
+              omega (arith, next, stored now chapter n here k .0, a .rest k below);
+          small = λ k below. omega (arith, stored now chapter n here k, a .small k below);
         }
 
     pub added-all : (buffer : List ℕ) → before ≡ zeros ++ drop chapterCount buffer → chapterCount ≤ length buffer → length counts ≤ c
@@ -115,5 +115,5 @@ module _ (counts chapters : List ℕ) where
         let whole : (k : ℕ) → k < chapterCount → getD now k 0 ≡ chapterTotal k counts chapters
         = λ k h. let none : chapterTotal k (drop c counts) (drop c chapters) ≡ 0 = rw (drop-of-length-le counts done) in omega (arith, none, a .rest k h) in
         sym (take-append-drop chapterCount now)
-        ∙ ap₂ _++_ (part-table now 0 chapterCount (omega (arith, a .length-same, length-behind-clear buffer before e roomy)) (λ (k : ℕ). chapterTotal k counts chapters) (λ k h. rw (zero-add k) (whole k h)))
-        (a .behind ∙ behind-clear buffer before e)
+        ∙ ap₂ _++_ (part-table now 0 chapterCount (omega (arith, a .length-same, length-after-clear buffer before e roomy)) (λ (k : ℕ). chapterTotal k counts chapters) (λ k h. rw (zero-add k) (whole k h)))
+        (a .behind ∙ behind-after-clear buffer before e)

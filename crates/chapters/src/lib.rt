@@ -68,7 +68,7 @@ fn add_up(counts: &[u32], chapters: &[u32], totals: &mut [u64])
     }
 }
 
-// Writes the 32 totals, chapter 0 first. A refusal, or false where the chapters do not fit, writes nothing.
+// Writes the 32 totals, chapter 0 first. A refusal, or false where the chapters or the lent totals do not fit, writes nothing.
 pub fn chapter_totals(book: &[u32], session: &[u32], chapters: &[u32], totals: &mut [u64]) -> Filing
     ensures { λ r. ⌜ r ≡ chapterAnswer (now (book .entry)) (now (session .entry)) (now (chapters .entry)) (length (now (totals .entry))) ⌝ }
     ensures { λ r. ⌜ now (totals .exit) ≡ chapterNumbers (now (book .entry)) (now (session .entry)) (now (chapters .entry)) (now (totals .entry)) ⌝ }

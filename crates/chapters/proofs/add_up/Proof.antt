@@ -7,7 +7,7 @@ use lib.ListN.{length, getD}
 use Rattle.run.specs.Run.{maxCount}
 use Rattle.chapters.specs.Chapters.{maxChapter, chapterCount}
 use Rattle.chapters.proofs.FitLaws.{Fit, true-fit}
-use Rattle.chapters.proofs.SumLaws.{Added, length-behind-clear, added-none, added-more, added-all}
+use Rattle.chapters.proofs.SumLaws.{Added, length-after-clear, added-none, added-more, added-all}
 use Rattle.chapters.proofs.add_up.Statement.{statement}
 use Rattle.chapters.proofs.add_up.Tie as tie
 
@@ -35,7 +35,7 @@ start c = c .before .before .before .before .before .before .before .before
 
 -- the totals that are cleared have room, and so have those in the loop
 cleared : (c : tie.At-loop Inv-loop μ-loop) → length (c .before .before .before .clear .last .0) ≡ length (start c .args .totals .now)
-cleared c = length-behind-clear (start c .args .totals .now) _ (c .before .before .before .clear .ensures) (fits (start c) .roomy)
+cleared c = length-after-clear (start c .args .totals .now) _ (c .before .before .before .clear .ensures) (fits (start c) .roomy)
 
 roomy : (c : tie.At-loop Inv-loop μ-loop) → chapterCount ≤ length (c .loop .totals)
 roomy c = omega (arith, c .loop .inv .length-same, cleared c, fits (start c) .roomy)

@@ -50,7 +50,7 @@ returns c =
 few : (c : tie.Else1) → c .before .before .wide .result ≤ maxClauses
 few c =
     let here = c .before .before in
-    few-told (start here .args .book .now) (start here .args .session .now) (start here .args .chapters .now) (start here .args .totals .now) _ (told here)
+    few-told (start here .args .book .now) (start here .args .session .now) _ (told here)
 
 array-share-prefix-counts : tie.Need-array-share-prefix-counts
 array-share-prefix-counts c =
