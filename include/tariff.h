@@ -38,7 +38,7 @@ static inline uint32_t tariff_barred(uint32_t feature) { return 2 * feature + 1;
 static inline uint32_t tariff_state(uint64_t answer) { return tariff_kind(answer) == TARIFF_ACCEPTED ? tariff_number(answer) % 4 : TARIFF_IS_REFUSED; }
 static inline uint32_t tariff_level(uint64_t answer) { return tariff_number(answer) / 4; }
 
-/* What tariff_chapters says: 1 if it wrote the totals, else 0, where it answers false and where it refuses. */
+/* Of an answer of tariff_chapters, whether it wrote the totals: 1 if so; 0 where the answer is false, and where it is a refusal. */
 static inline uint32_t tariff_filed(uint64_t answer) { return answer == 1; }
 
 /* The places of the figures, and how many there are. */

@@ -94,7 +94,7 @@ impl Compared {
         self.chapters(random, book, session);
     }
 
-    /// The sums by chapter: one chapter fewer than there are clauses up to two more, now and then one over 31, and 31 to 34 sums.
+    /// The sums by chapter: from one chapter fewer than there are clauses to two more, now and then up to 32 instead of 31, and 31 to 34 sums.
     fn chapters(&mut self, random: &mut Random, book: &[u32], session: &[u32]) {
         let length = (book[1] as usize + random.below(4)).saturating_sub(1);
         let highest = if random.once_in(8) { 33 } else { 32 };
@@ -168,7 +168,7 @@ impl Compared {
         self.state(random, book, &session);
     }
 
-    /// Calls on damaged copies of the session, and on a damaged copy of the book, of which no count or total is read.
+    /// Calls that change a session, on damaged copies of it and on a damaged copy of the book; the reading calls on two of the damaged sessions.
     fn damaged_calls(&mut self, random: &mut Random, book: &[u32], session: &[u32]) {
         let damaged = damage::numbers(random, session);
         self.random_calls(random, book, &damaged);

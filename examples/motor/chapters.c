@@ -1,5 +1,5 @@
 /* Makes the session of a script on a tariff and says of each chapter of the tariff how many rules it has and what checks they have cost.
- * A comment `c == Liability` of the tariff is a heading and begins a chapter; the first is chapter 0. */
+ * A comment that begins with `c ==` is a heading, as `c == Liability`, and begins a chapter; the first is chapter 0. */
 #include "follow.h"
 
 static uint32_t headings;
@@ -12,7 +12,7 @@ static uint32_t chapters[TARIFF_RULES]; /* the chapter of each of them, rule 1 f
 static void begin_chapter(char *words) {
     size_t length = strlen(words);
     if (length > 0 && words[length - 1] == '\r') words[--length] = '\0';
-    if (length < 2 || words[0] != ' ') fail("a heading is not `c ==`, a blank and a name");
+    if (length < 2 || words[0] != ' ' || words[1] == ' ') fail("a heading is not `c ==`, a blank and a name");
     if (headings == TARIFF_CHAPTERS) fail("the tariff has more than 32 headings");
     names[headings++] = words + 1;
 }

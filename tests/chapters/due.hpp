@@ -72,7 +72,8 @@ inline void compare_sum(const Sums& totals, const Lending& before, const Ways& w
     compare_number(std::accumulate(totals.begin(), totals.begin() + CHAPTERS, uint64_t{0}), sum, "sum of totals", CHAPTERS);
 }
 
-// A call in one of these ways. The number by which the examination refuses, 0 where it does not, is held to what is due where it is known. What was due.
+// A call in one of these ways. Where it is known by which number the examination refuses, 0 where it does not, what is due is held to that. Answers what was
+// due.
 inline Due compare_filing(Lending lent, std::optional<uint64_t> refusal, const Ways& ways) {
     const Lending before = lent;
     Due due = due_of(lent, ways);

@@ -52,7 +52,7 @@ auto by(const Ways& ways, Tally& tally) {
     return [ways, &tally](uint64_t seed, const shapes::Shape& shape) { run_case(seed, shape, ways, tally); };
 }
 
-// What is written of a book and these chapters behind some decisions, with other counts lent where there are any.
+// What is written of a book and these chapters behind some calls, with other counts lent where there are any.
 Sums written(const Formula& formula, const std::vector<Call>& calls, const Numbers& chapters, const Numbers& counts) {
     Random random(0);
     Library library(random, dimacs(formula));

@@ -1,5 +1,5 @@
 // Other ways to file than the library's call: wrong ones, most of which change what that is lent or what it leaves, and right ones; and wrong ones of what
-// it is compared with.
+// it is compared with, and of what the header says of its answer.
 #pragma once
 #include <algorithm>
 #include <cstddef>
@@ -322,7 +322,7 @@ inline std::vector<Named> wrong_sums() {
 inline std::vector<Named> wrong_answers() {
     return {
         {"false before 11 and 12", then(false_first)},
-        {"12 before 11 where there is no header", then(session_first)},
+        {"12 before 11 where a session is shorter than its header", then(session_first)},
         {"12 for 11", answer_as([](uint64_t answer) { return answer == c_refusal(11) ? c_refusal(12) : answer; })},
         {"11 for 12", answer_as([](uint64_t answer) { return answer == c_refusal(12) ? c_refusal(11) : answer; })},
         {"false for a refusal", answer_as([](uint64_t answer) { return is_refused(answer) ? NOT_FILED : answer; })},

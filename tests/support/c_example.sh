@@ -1,5 +1,5 @@
 # Shared by the tests of the C examples: an example is built over the static library, run, and compared with its stored output.
-# The test says which one by `example SOURCE STORED [NAME]`; what is built has this name, or else that of its source. It defines `run PROGRAM`,
+# The test says which one by `example SOURCE STORED [NAME]`; what is built has this name, or else that of its source. The test defines `run PROGRAM`,
 # which runs it with its words, and where something else than the example is to confirm the stored output, `agrees FILE`.
 
 example() {

@@ -43,7 +43,7 @@ module _ (book session : List ℕ) where
   unfolding copyAnswer
   told-refusal n e = outcome-refused (readRefusal book session) (length counts) n (count-refused n _ e)
 
-  -- where a count is told, it is that of the clauses, and a copy of so many numbers has all counts in front
+  -- where a count is told, it is that of the clauses, and a copy to maxClauses numbers begins with all counts
   module _ (n : ℕ) (e : count.Of n ≡ copyAnswer book session checksOfRun) where
     none : 0 ≡ readRefusal book session
     none = told-count n e .0

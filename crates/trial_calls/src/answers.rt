@@ -1,4 +1,4 @@
-// The answers of the calls in the paper's words. A function that says one answers how many literals of the trail are to be listed behind.
+// The answers of the calls in the paper's words. Each function that is handed a call's answer and says it answers how many literals of the trail are to be listed behind.
 use chapters::Filing;
 use session::Answer;
 use session::Assigned;
