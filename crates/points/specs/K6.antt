@@ -27,15 +27,15 @@ abbrev session : List ℕ
 session = encode listing (reference listing calls)
 
 -- so many lent totals, none of them 0
-abbrev lent : ℕ → List ℕ
-lent n = replicate n 7
+abbrev buffer : ℕ → List ℕ
+buffer n = replicate n 7
 
 -- what is answered and left for chapters and so many lent totals
 abbrev answer : List ℕ → ℕ → Filing
 answer chapters room = chapterAnswer book session chapters room
 
 abbrev left : List ℕ → ℕ → List ℕ
-left chapters room = chapterNumbers book session chapters (lent room)
+left chapters room = chapterNumbers book session chapters (buffer room)
 
 -- the session with the largest count for each rule
 abbrev full : List ℕ
@@ -53,24 +53,24 @@ pub record Points : Type 0 where
   -- A chapter over 31, fewer chapters than rules, fewer than 32 totals: false, and nothing is written.
   pub over : answer (0 ∷ 31 ∷ 32 ∷ []) 32 ≡ Filed false
   pub over-first : answer (32 ∷ 31 ∷ 0 ∷ []) 32 ≡ Filed false
-  pub over-left : left (0 ∷ 31 ∷ 32 ∷ []) 32 ≡ lent 32
+  pub over-left : left (0 ∷ 31 ∷ 32 ∷ []) 32 ≡ buffer 32
   pub fewer-chapters : answer (0 ∷ 31 ∷ []) 32 ≡ Filed false
-  pub fewer-chapters-left : left (0 ∷ 31 ∷ []) 32 ≡ lent 32
+  pub fewer-chapters-left : left (0 ∷ 31 ∷ []) 32 ≡ buffer 32
   pub fewer-totals : answer (0 ∷ 31 ∷ 0 ∷ []) 31 ≡ Filed false
-  pub fewer-totals-left : left (0 ∷ 31 ∷ 0 ∷ []) 31 ≡ lent 31
+  pub fewer-totals-left : left (0 ∷ 31 ∷ 0 ∷ []) 31 ≡ buffer 31
   -- What lies behind the chapters of the rules is not looked at.
   pub not-looked-at : left (0 ∷ 31 ∷ 0 ∷ 32 ∷ []) 32 ≡ 4 ∷ replicate 31 0
   -- 11 and 12 come before false.
   pub book-at-fault : chapterAnswer (set book 0 0) session [] 0 ≡ Refused 11
   pub session-at-fault : chapterAnswer book (set session lengthAt 9) [] 0 ≡ Refused 12
-  pub refused-left : chapterNumbers book (set session lengthAt 9) (0 ∷ 31 ∷ 0 ∷ []) (lent 32) ≡ lent 32
+  pub refused-left : chapterNumbers book (set session lengthAt 9) (0 ∷ 31 ∷ 0 ∷ []) (buffer 32) ≡ buffer 32
   -- Three full counts in one chapter.
-  pub full-counts : chapterNumbers book full (5 ∷ 5 ∷ 5 ∷ []) (lent 32) ≡ replicate 5 0 ++ (12884901885 ∷ replicate 26 0)
+  pub full-counts : chapterNumbers book full (5 ∷ 5 ∷ 5 ∷ []) (buffer 32) ≡ replicate 5 0 ++ (12884901885 ∷ replicate 26 0)
   -- A rule that is always met has a chapter like any other.
-  pub always-met : chapterNumbers (numbersOf alwaysMet) (set idle (checksAt 1 1) 9) (31 ∷ []) (lent 32) ≡ replicate 31 0 ++ (9 ∷ [])
+  pub always-met : chapterNumbers (numbersOf alwaysMet) (set idle (checksAt 1 1) 9) (31 ∷ []) (buffer 32) ≡ replicate 31 0 ++ (9 ∷ [])
   pub always-met-over : chapterAnswer (numbersOf alwaysMet) idle (32 ∷ []) 32 ≡ Filed false
   -- A book without rules needs no chapters.
-  pub no-clauses : chapterNumbers (numbersOf (noClauses 4)) (encode (noClauses 4) (openRun (noClauses 4))) [] (lent 32) ≡ replicate 32 0
+  pub no-clauses : chapterNumbers (numbersOf (noClauses 4)) (encode (noClauses 4) (openRun (noClauses 4))) [] (buffer 32) ≡ replicate 32 0
 
 pub points : Points
 unfolding chapterTotal chapterTotals chaptersFit chapterAnswer chapterNumbers any distinct times table upTo soundClause sound starts numbersOf clausesFrom rising wellFormed valueNumber levelNumber nodeOf watchLiteral firstNode behind headNumber linkNumber watchNumber encode levelBefore heldTrail heldCells chainFrom heldLists held hasReason isJustified isWatching isGuarded watchesHold isFixpoint isConflict isListed isValid passes callRefusal readRefusal all flat member same literalWithin opposite place literalAt isTrue decisions level lowered cut watched next oneMore scanFrom scan pushFront without takeOut addChecks otherWatch moved scannedAction action onTrail withWatches counted performAction visit readList propagateFrom firstCell watchAll fresh assignUnit assignUnits openRun decide backtrack decideRefusal backtrackRefusal refusal performCall step stepAll reference keep sum

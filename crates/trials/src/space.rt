@@ -60,7 +60,7 @@ pub fn untouched(numbers: &[u32], from: usize) {
 }
 
 // All totals are as they were lent.
-fn all_lent(totals: &[u64]) -> bool {
+fn all_untouched(totals: &[u64]) -> bool {
     let mut k = 0;
     while k < totals.len() {
         if totals[k] != LENT_TOTAL {
@@ -73,7 +73,7 @@ fn all_lent(totals: &[u64]) -> bool {
 
 // Totals that must be as they were lent; that they are not is said.
 pub fn totals_untouched(totals: &[u64]) {
-    if !all_lent(totals) {
+    if !all_untouched(totals) {
         messages::print(messages::CHANGED);
     }
 }

@@ -1,9 +1,9 @@
--- `all_lent` is safe and ends: each turn passes one total. Assumes nothing.
+-- `all_untouched` is safe and ends: each turn passes one total. Assumes nothing.
 use Prim.Native.Nat.{_≤_, _-_}
 use borrow.Author.Needs.{needs}
 use lib.ListN.{length}
-use Rattle.trials.proofs.space.all_lent.Statement.{statement}
-use Rattle.trials.proofs.space.all_lent.Tie as tie
+use Rattle.trials.proofs.space.all_untouched.Statement.{statement}
+use Rattle.trials.proofs.space.all_untouched.Tie as tie
 
 abbrev Inv-loop : tie.InvT-loop
 Inv-loop totals k₀ k = (k ≤ length totals)
@@ -35,8 +35,8 @@ loop-again c = search needs
 returns-2 : tie.Need-returns-2 Inv-loop μ-loop
 returns-2 c = search needs
 
-pub all-lent-spec : {M : Type 1} → statement M
-all-lent-spec =
+pub all-untouched-spec : {M : Type 1} → statement M
+all-untouched-spec =
     tie.close
     (tie.spec
     Inv-loop
