@@ -33,6 +33,15 @@ extern "C" {
         totals: *mut u64,
         l: usize,
     ) -> u64;
+    fn tariff_quote(
+        book: *const u32,
+        n: usize,
+        script: *const u8,
+        m: usize,
+        out: *mut u32,
+        k: usize,
+        ceiling: *mut u64,
+    ) -> u64;
 }
 
 pub struct Proved;

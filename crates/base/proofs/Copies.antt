@@ -1,11 +1,11 @@
 -- A list whose front part is copied from another list: as a loop that copies meets it, and the laws of `copied`.
 use Prim.Native.Nat.{ℕ, suc, _+_, _-_, _≤_, _<_}
 use mathlib.Core.Path.{_≡_, refl, ap, ap₂, sym, _∙_}
-use mathlib.Core.List.{List, _++_, append-assoc}
+use mathlib.Core.List.{List, [], _∷_, _++_, append-assoc}
 use native.Mathlib.Numerals.{add-one}
 use native.Mathlib.Omega.{arith}
 use lib.ListN.{length, getD, take, drop, set, length-take, length-drop, length-append, drop-of-length-le}
-use lib.Seq.{drop-cons, set-at, append-snoc, take-suc, length-take-le, take-all, take-at, drop-at, drop-drop}
+use lib.Seq.{drop-cons, set-at, append-snoc, take-suc, length-take-le, take-all, take-at, drop-at, drop-drop, take-nil}
 use Rattle.base.specs.Lists.{copied}
 use Rattle.base.proofs.Lists.{take-both}
 
@@ -93,3 +93,19 @@ module _ (source buffer : List ℕ) where
     count-behind =
         rw (drop-copy, length-drop (length source) buffer, take-both (length buffer) source more)
         (sym (length-append (take (length buffer) source) _))
+
+-- numbers stored one by one: of those that fit each goes behind the others
+copy-store : (source buffer : List ℕ) (x : ℕ) → set (copied source buffer) (length source) x ≡ copied (source ++ (x ∷ [])) buffer
+unfolding copied
+copy-store [] [] x = refl
+copy-store [] (y ∷ buffer) x = rw (take-nil {A = ℕ} (length buffer))
+copy-store (s ∷ source) [] x = refl
+copy-store (s ∷ source) (y ∷ buffer) x = ap (λ (l : List ℕ). s ∷ l) (copy-store source buffer x)
+
+pub stored-none : (buffer : List ℕ) → buffer ≡ copied [] buffer
+unfolding copied
+stored-none buffer = rw (take-nil {A = ℕ} (length buffer))
+
+pub stored-more : (buffer source : List ℕ) (x : ℕ) {now after : List ℕ} → now ≡ copied source buffer → after ≡ set now (length source) x
+    → after ≡ copied (source ++ (x ∷ [])) buffer
+stored-more buffer source x is stored = stored ∙ rw is (copy-store source buffer x)

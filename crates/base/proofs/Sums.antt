@@ -1,8 +1,12 @@
--- Laws of the sum of a table.
-use Prim.Native.Nat.{ℕ, zero, suc, _+_, _<_}
+-- Laws of sums: of a table, and as a loop over an index meets one.
+use Prim.Native.Nat.{ℕ, zero, suc, _+_, _≤_, _<_}
 use native.Mathlib.Nat.{le-of-suc-le-suc}
+use native.Mathlib.Numerals.{add-one}
 use native.Mathlib.Omega.{arith}
-use mathlib.Core.Path.{_≡_, refl}
+use mathlib.Core.List.{List}
+use mathlib.Core.Path.{_≡_, refl, ap}
+use lib.ListN.{length, getD, drop, drop-of-length-le}
+use lib.Seq.{drop-cons}
 use Rattle.base.specs.Lists.{table, sum}
 
 -- of zeros
@@ -25,3 +29,23 @@ pub sum-both : (n : ℕ) (f g : ℕ → ℕ) → sum (table n (λ (i : ℕ). f i
 unfolding sum table
 sum-both zero f g = refl
 sum-both (suc n) f g = omega (arith, sum-both n (λ (i : ℕ). f (suc i)) (λ (i : ℕ). g (suc i)))
+
+-- what a loop knows at index i: s is the sum of the first i numbers
+pub record Summed (numbers : List ℕ) (s i : ℕ) : Type 0 where
+  pub within : i ≤ length numbers
+  pub rest : s + sum (drop i numbers) ≡ sum numbers
+
+pub summed-none : (numbers : List ℕ) → Summed numbers 0 0
+summed-none numbers = record { within = omega arith; rest = omega arith }
+
+pub summed-more : (numbers : List ℕ) (s i n : ℕ) → Summed numbers s i → i < length numbers → n ≡ getD numbers i 0 → Summed numbers (s + n) (i + 1)
+unfolding sum
+summed-more numbers s i n r h e =
+    let here : sum (drop i numbers) ≡ getD numbers i 0 + sum (drop (i + 1) numbers) = rw (add-one i) (ap sum (drop-cons numbers i 0 h)) in
+    record { within = omega arith; rest = omega (arith, r .rest) }
+
+pub summed-all : (numbers : List ℕ) (s i : ℕ) → Summed numbers s i → length numbers ≤ i → s ≡ sum numbers
+unfolding sum
+summed-all numbers s i r h =
+    let none : sum (drop i numbers) ≡ 0 = ap sum (drop-of-length-le numbers h) in
+    omega (arith, r .rest)

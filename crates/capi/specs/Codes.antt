@@ -21,6 +21,8 @@ use Rattle.session.specs.declared.Count.{Count}
 use Rattle.session.specs.declared.Count.the-variants as count
 use Rattle.chapters.specs.declared.Filing.{Filing}
 use Rattle.chapters.specs.declared.Filing.the-variants as filing
+use Rattle.quote.specs.declared.Quote.{Quote}
+use Rattle.quote.specs.declared.Quote.the-variants as quote
 
 abbrev pub conflictCode : ℕ → ℕ
 conflictCode clause = 4294967296 + clause
@@ -88,3 +90,17 @@ abbrev pub filingCode : Filing → ℕ
 filingCode (filing.Filed true) = 1
 filingCode (filing.Filed false) = 0
 filingCode (filing.Refused number) = refusalCode number
+
+-- a quote is three numbers, the session's length, W and the lines of the form `b k`, copied as the figures are; and the quoted ceiling, which goes to a
+-- place of its own
+abbrev pub quoteCode : Quote → ℕ
+quoteCode (quote.Of length worst backtracks ceiling) = 3
+quoteCode (quote.Refused number) = refusalCode number
+
+abbrev pub quoteAfter : Quote → List ℕ → List ℕ
+quoteAfter (quote.Of length worst backtracks ceiling) buffer = copied (length ∷ worst ∷ backtracks ∷ []) buffer
+quoteAfter (quote.Refused number) buffer = buffer
+
+abbrev pub ceilingAfter : Quote → ℕ → ℕ
+ceilingAfter (quote.Of length worst backtracks ceiling) before = ceiling
+ceilingAfter (quote.Refused number) before = before

@@ -1,4 +1,4 @@
-// The calls of book, session and chapters for C: slices as a pointer and a length, answers as one number.
+// The calls of book, session, chapters and quote for C: slices as a pointer and a length, answers as one number.
 ghost use mathlib.Core.Path.{_≡_};
 ghost use lib.ListN.{length, set};
 ghost use Rattle.book.specs.Reading.{readText};
@@ -6,7 +6,8 @@ ghost use Rattle.book.specs.Answer.{readAnswer, numbersAfter};
 ghost use Rattle.run.specs.Run.{trailBehind};
 ghost use Rattle.session.specs.Outcomes.{requiredAnswer, openAnswer, openNumbers, decideAnswer, decideNumbers, backtrackAnswer, backtrackNumbers, fixAnswer, fixNumbers, fixedAnswer, lookupAnswer, figuresAnswer, totalAnswer, copyAnswer, copyNumbers, checksOfRun};
 ghost use Rattle.chapters.specs.Chapters.{chapterAnswer, chapterNumbers};
-ghost use Rattle.capi.specs.Codes.{refusalCode, readingCode, answerCode, backCode, assignedCode, countCode, figuresCode, figuresAfter, sumCode, sumAfter, filingCode};
+ghost use Rattle.quote.specs.Quote.{quoteAnswer};
+ghost use Rattle.capi.specs.Codes.{refusalCode, readingCode, answerCode, backCode, assignedCode, countCode, figuresCode, figuresAfter, sumCode, sumAfter, filingCode, quoteCode, quoteAfter, ceilingAfter};
 
 fn refusal(number: u32) -> u64
     ensures { λ r. ⌜ r ≡ refusalCode number ⌝ }
@@ -226,4 +227,33 @@ pub extern "C" fn tariff_chapters(
     ensures { λ r. ⌜ now (totals .exit) ≡ chapterNumbers (now (book .entry)) (now (session .entry)) (now (chapters .entry)) (now (totals .entry)) ⌝ }
 {
     filing_code(chapters::chapter_totals(book, session, chapters, totals))
+}
+
+// Copies the session's length, W and the lines of the form `b k` to `out`: what fits; the quoted ceiling, into `ceiling`.
+#[no_mangle]
+pub extern "C" fn tariff_quote(
+    book: &[u32],
+    script: &[u8],
+    out: &mut [u32],
+    ceiling: &mut u64,
+) -> u64
+    ensures { λ r. ⌜ r ≡ quoteCode (quoteAnswer (now (book .entry)) (now (script .entry))) ⌝ }
+    ensures { λ r. ⌜ now (out .exit) ≡ quoteAfter (quoteAnswer (now (book .entry)) (now (script .entry))) (now (out .entry)) ⌝ }
+    ensures { λ r. ⌜ now (ceiling .exit) ≡ ceilingAfter (quoteAnswer (now (book .entry)) (now (script .entry))) (now (ceiling .entry)) ⌝ }
+{
+    match quote::quote_script(book, script) {
+        quote::Quote::Of {
+            length,
+            worst,
+            backtracks,
+            ceiling: most,
+        } => {
+            put(length, 0, out);
+            put(worst, 1, out);
+            put(backtracks, 2, out);
+            *ceiling = most;
+            3
+        }
+        quote::Quote::Refused(number) => refusal(number),
+    }
 }

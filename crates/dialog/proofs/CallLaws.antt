@@ -15,9 +15,10 @@ use Rattle.book.specs.Answer.{readAnswer, numbersAfter}
 use Rattle.book.specs.declared.Reading.the-variants as reading
 use Rattle.script.specs.Answers.{refusedLine}
 use Rattle.script.specs.Buffer.{fitting}
+use Rattle.script.specs.Script.{lineBytes}
 use Rattle.dialog.specs.Answering.{lastLine}
 use Rattle.dialog.specs.Starting.{startLeft, opening, startingBy, starting}
-use Rattle.dialog.specs.Taking.{takeLeft, lineBytes, keptAfter, lineAfter, keeping, ending, taking, begunBytes, begunNumbers, finalBytes}
+use Rattle.dialog.specs.Taking.{takeLeft, keptAfter, lineAfter, keeping, ending, taking, begunBytes, begunNumbers, finalBytes}
 use Rattle.dialog.specs.Inner.Printing.{Prints, PrintsLine, PrintsBegun}
 use Rattle.dialog.specs.declared.Started.{Started}
 use Rattle.dialog.specs.declared.Started.the-variants as started

@@ -1,5 +1,5 @@
 -- The bytes that `start`, `take` and `finish` hand out, joined, are the output of the script program, however the script is parted.
-use Prim.Native.Nat.{ℕ, zero, suc, _+_, _-_, _≤_}
+use Prim.Native.Nat.{ℕ, zero, suc, _-_, _≤_}
 use mathlib.Core.Path.{_≡_, refl, ap, ap₂, sym, _∙_}
 use mathlib.Core.Bool.{Bool, true, false, cond}
 use mathlib.Core.List.{List, [], _∷_, _++_, append-assoc}
@@ -24,20 +24,20 @@ use Rattle.session.specs.declared.Answer.{Answer}
 use Rattle.session.specs.declared.Answer.the-variants as answer
 use Rattle.script.specs.declared.Line.{Line}
 use Rattle.script.specs.declared.Cause.the-variants.{Opening}
-use Rattle.script.specs.Script.{lineOf, scriptLines}
+use Rattle.script.specs.Script.{lineOf, scriptLines, lineBytes}
 use Rattle.script.specs.Answers.{refusedLine}
 use Rattle.script.specs.Buffer.{fitting}
 use Rattle.script.specs.Desk.{propagatedLine, answerTo, stepOf, answersTo, outputFor, deskOutput}
 use Rattle.script.proofs.LineLengths.{length-refused}
 use Rattle.dialog.specs.Starting.{StartLeft, startLeft, startedBy, openBytes, opening, startingBy, starting}
-use Rattle.dialog.specs.Taking.{TakeLeft, lineBytes, keeping, ending, taking}
+use Rattle.dialog.specs.Taking.{TakeLeft, keeping, ending, taking}
 use Rattle.dialog.specs.Program.{Lends, Holds, PartTaken, used-up, goes-on, ScriptPrints, reads, finishes, StartPrints, refuses, opens, ProgramPrints, holding, takes, handed, holdsThen, handedLast}
 use Rattle.dialog.specs.declared.Started.{Started}
 use Rattle.dialog.specs.declared.Started.the-variants as started
 use Rattle.dialog.proofs.OutcomeLaws.{opening-holds, run-opening}
 use Rattle.dialog.proofs.LineLaws.{opening-answers}
 use Rattle.dialog.proofs.FitLaws.{opening-fits}
-use Rattle.dialog.proofs.ScriptLaws.{joined, joined-none, lines-kept, lines-ended}
+use Rattle.script.proofs.ScriptLaws.{joined, joined-none, lines-kept, lines-ended}
 use Rattle.dialog.proofs.FollowLaws.{handed-whole, use-some, Follows, ended-hands, ended-follows, kept-follows, finish-joined}
 
 -- what a call of `take` is, by whether its bytes have the end of a line

@@ -15,17 +15,17 @@ use Rattle.book.specs.Numbers.{formulaOf}
 use Rattle.run.specs.Run.{Run}
 use Rattle.session.specs.declared.Answer.the-variants as answer
 use Rattle.script.specs.declared.Line.{Line}
-use Rattle.script.specs.Script.{lineOf}
+use Rattle.script.specs.Script.{lineBytes, lineOf}
 use Rattle.script.specs.Buffer.{fitting}
 use Rattle.script.specs.Desk.{answerTo, stepOf, answersTo}
 use Rattle.script.proofs.LongLines.{kept-line}
 use Rattle.dialog.specs.Answering.{lineAnswer, lineNumbers, lastLine}
-use Rattle.dialog.specs.Taking.{TakeLeft, takeLeft, lineBytes, keptAfter, lineAfter, keeping, ending, taking, begunBytes, begunNumbers, finalBytes}
+use Rattle.dialog.specs.Taking.{TakeLeft, takeLeft, keptAfter, lineAfter, keeping, ending, taking, begunBytes, begunNumbers, finalBytes}
 use Rattle.dialog.specs.Program.{HoldsRun, Holds, handed, holdsThen, handedLast, maxAnswer, maxLine}
 use Rattle.dialog.specs.declared.Taken.{Taken}
 use Rattle.dialog.proofs.LineLaws.{line-answers, line-holds, last-answers}
 use Rattle.dialog.proofs.FitLaws.{answer-fits, final-fits}
-use Rattle.dialog.proofs.ScriptLaws.{joined}
+use Rattle.script.proofs.ScriptLaws.{joined}
 
 -- bytes that fit are handed out whole
 pub handed-whole : (bytes out : List ℕ) → length bytes ≤ maxAnswer → maxAnswer ≤ length out → take (fitting bytes out) (copied bytes out) ≡ bytes

@@ -3,7 +3,6 @@ pub mod OutcomeLaws
 pub mod LineLaws
 pub mod CallLaws
 pub mod FitLaws
-pub mod ScriptLaws
 pub mod FollowLaws
 pub mod PartLaws
 pub mod DeskOutput

@@ -4,10 +4,9 @@ use mathlib.Core.Bool.{cond}
 use mathlib.Core.List.{List, [], _++_}
 use lib.Dec.{ltb}
 use lib.ListN.{length, take, drop}
-use Rattle.base.specs.Lists.{until, copied}
-use Rattle.book.specs.Text.{lineEnd}
+use Rattle.base.specs.Lists.{copied}
 use Rattle.script.specs.declared.Line.{Line}
-use Rattle.script.specs.Script.{lineOf}
+use Rattle.script.specs.Script.{lineBytes, lineOf}
 use Rattle.script.specs.Buffer.{fitting}
 use Rattle.dialog.specs.Answering.{lineAnswer, lineNumbers, lastLine}
 use Rattle.dialog.specs.declared.Taken.{Taken}
@@ -21,10 +20,6 @@ pub record TakeLeft : Type 0 where
 
 abbrev pub takeLeft : Taken → List ℕ → List ℕ → List ℕ → TakeLeft
 takeLeft answer session line out = record { answer = answer; session = session; line = line; out = out }
-
--- the bytes before the first byte 10, or all
-abbrev pub lineBytes : List ℕ → List ℕ
-lineBytes bytes = until lineEnd bytes
 
 -- A line that has begun, in a buffer of any length: behind the bytes that are kept, as many as fit.
 abbrev pub keptAfter : List ℕ → ℕ → List ℕ → ℕ

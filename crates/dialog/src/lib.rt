@@ -53,7 +53,7 @@ pub fn take(
 ) -> Taken
     ensures { λ r. ⌜ takeLeft r (now (session .exit)) (now (line .exit)) (now (out .exit)) ≡ taking (now (book .entry)) (now (session .entry)) (now (line .entry)) kept (now (bytes .entry)) (now (out .entry)) ⌝ }
 {
-    let end = lines::line_end(bytes);
+    let end = script::line_end(bytes);
     if end < bytes.len() {
         let held = lines::keep(line, kept, &bytes[..end]);
         let written = answers::answer(book, session, line, held, out);

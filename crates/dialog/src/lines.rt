@@ -1,24 +1,10 @@
 // The line that has begun: as many of its bytes as fit are kept in a lent buffer.
 ghost use mathlib.Core.Path.{_≡_};
-ghost use lib.ListN.{length, take};
+ghost use lib.ListN.{take};
 ghost use Rattle.base.specs.Lists.{copied};
 ghost use Rattle.script.specs.Buffer.{fitting};
 ghost use Rattle.script.specs.Script.{lineOf};
-ghost use Rattle.dialog.specs.Taking.{lineBytes, keptAfter, lineAfter};
-
-// The bytes before the first byte 10, or all.
-pub(crate) fn line_end(bytes: &[u8]) -> usize
-    ensures { λ r. ⌜ r ≡ length (lineBytes (now (bytes .entry))) ⌝ }
-{
-    let mut i = 0;
-    while i < bytes.len() {
-        if bytes[i] == 10 {
-            return i;
-        }
-        i += 1;
-    }
-    i
-}
+ghost use Rattle.dialog.specs.Taking.{keptAfter, lineAfter};
 
 // Copies the bytes that fit to the front of `buffer`, and answers how many.
 fn store(bytes: &[u8], buffer: &mut [u8]) -> usize

@@ -1,4 +1,5 @@
 -- The laws of `layout` that proofs cite.
+pub mod CeilingLaws
 pub mod ChainLaws
 pub mod EncodeLaws
 pub mod FitsLaws

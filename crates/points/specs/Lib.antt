@@ -5,3 +5,4 @@ pub mod K7
 pub mod K5
 pub mod K14
 pub mod K6
+pub mod K11

@@ -1,22 +1,22 @@
 -- The fixed decisions: how many they are never falls, and they stay. They bar the way out of no conflict that calls lead to, and of every one that is lent
 -- with all decisions fixed. What a fixing sets, and when 14, 16 and 22 are given.
-use Prim.Native.Nat.{ℕ, zero, suc, _+_, _-_, _≤_, _<_}
+use Prim.Native.Nat.{ℕ, suc, _+_, _-_, _≤_, _<_}
 use native.Mathlib.Omega.{arith}
 use mathlib.Core.Bool.{and-false, Bool, true, false, cond}
 use mathlib.Core.List.{List, [], _∷_}
 use mathlib.Core.Logic.{_⊎_, inl, inr, ⊎-elim, _↔_}
 use mathlib.Core.Path.{_≡_, refl, sym, ap, _∙_}
 use borrow.Author.Tests.{le-leb, lt-leb}
-use lib.Dec.{leb, ltb}
+use lib.Dec.{leb}
 use lib.ListN.{length, length-drop}
 use lib.Seq.{drop-drop}
 use Rattle.base.proofs.Bools.{never, below}
 use Rattle.book.specs.Formula.{Formula, literalWithin, sound}
 use Rattle.run.specs.Trail.{decisions, cut}
-use Rattle.run.specs.Run.{Run, clauseOf, cellOf, Action, stays, moves, implies, conflicts, action, onTrail, withWatches, withConflict, counted, performAction, visit, inConflict, readList, propagateFrom, openRun, decide, backtrack, fix}
+use Rattle.run.specs.Run.{Run, clauseOf, cellOf, Action, stays, moves, implies, conflicts, action, onTrail, withWatches, withConflict, counted, performAction, visit, inConflict, openRun, decide, backtrack, fix}
 use Rattle.run.specs.Calls.{Call, decision, backtrackBy, fixBy, maxBacktracks, decideRefusal, backtrackRefusal, fixRefusal, refusal, performCall, step, stepAll, oldestDecisions}
 use Rattle.run.specs.Valid.{Valid}
-use Rattle.run.proofs.Inductions.{read-induction, nextRead, readNext}
+use Rattle.run.proofs.Inductions.{propagating-keeps}
 use Rattle.run.proofs.Validity.{backtrack-accepted, fix-accepted}
 use Rattle.run.proofs.Levels.{cut-decisions}
 use Rattle.run.proofs.Theorems.{open-valid, by-number, step-valid, step-refused, open-undecided, decide-decisions}
@@ -32,33 +32,12 @@ visit-fixed formula q c run = go (action (run .trail) (clauseOf formula c) (cell
     go (implies made) = refl
     go (conflicts made) = refl
 
-reading-fixed : (formula : Formula) (q : ℕ) (unread : List ℕ) (run : Run) → readList formula q unread run .fixed ≡ run .fixed
-reading-fixed formula q unread run =
-    ⊎-elim (λ k. k) (λ k. k)
-    (read-induction formula q (λ rest r. r .fixed ≡ run .fixed) (λ r. r .fixed ≡ run .fixed)
-    (λ c rest r k e. visit-fixed formula q c r ∙ k)
-    (λ c rest r k e. visit-fixed formula q c r ∙ k)
-    unread run refl)
-
-propagating-fixed : (fuel : ℕ) (formula : Formula) (handled : ℕ) (run : Run) → propagateFrom fuel formula handled run .fixed ≡ run .fixed
-unfolding propagateFrom
-propagating-fixed zero formula handled run = refl
-propagating-fixed (suc fuel) formula handled run =
-    go (inConflict run) (ltb handled (length (run .trail)))
-    (propagating-fixed fuel formula (suc handled) (readNext formula handled run) ∙ reading-fixed formula (nextRead handled run) _ run)
-  where
-    rest : Run
-    rest = propagateFrom fuel formula (suc handled) (readNext formula handled run)
-
-    go : (b t : Bool) → rest .fixed ≡ run .fixed → cond b run (cond t rest run) .fixed ≡ run .fixed
-    go true t k = refl
-    go false true k = k
-    go false false k = refl
-
 -- A decision leaves how many decisions are fixed.
 pub decide-fixed : (formula : Formula) (l : ℕ) (run : Run) → decide formula l run .fixed ≡ run .fixed
 unfolding decide onTrail
-decide-fixed formula l run = propagating-fixed (suc (formula .variables)) formula (length (run .trail)) (onTrail l true run)
+decide-fixed formula l run =
+    propagating-keeps formula (λ r. r .fixed ≡ run .fixed) (λ q c r k. visit-fixed formula q c r ∙ k)
+    (suc (formula .variables)) (length (run .trail)) (onTrail l true run) refl
 
 -- from one run to another no decision comes free, and the f oldest decisions stay
 record Stays (f : ℕ) (before after : Run) : Type 0 where

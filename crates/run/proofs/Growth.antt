@@ -1,20 +1,19 @@
 -- What the opening's one-literal clauses and propagation add to the trail: implied literals only, behind those that were there.
-use Prim.Native.Nat.{ℕ, zero, suc, _<_}
+use Prim.Native.Nat.{ℕ, _<_}
 use native.Mathlib.Omega.{arith}
-use mathlib.Core.Bool.{Bool, true, false, cond, not}
+use mathlib.Core.Bool.{true, false, not}
 use mathlib.Core.List.{List, [], _∷_, _++_}
 use mathlib.Core.Logic.{⊎-elim, _↔_}
 use mathlib.Core.Path.{_≡_, refl, ap}
-use lib.Dec.{ltb, eqb}
-use lib.ListN.{length, getD}
+use lib.ListN.{length}
 use Rattle.base.specs.Lists.{all, distinct}
 use Rattle.base.proofs.Bools.{below}
 use Rattle.book.specs.Formula.{Formula}
-use Rattle.run.specs.Trail.{Entry, place, isTrue, isFalse, decisions, variablesOn, lowered}
-use Rattle.run.specs.Run.{Run, clauseOf, cellOf, Action, stays, moves, implies, conflicts, otherWatch, action, onTrail, withWatches, withConflict, counted, performAction, visit, inConflict, readList, propagateFrom, assignUnit, assignUnits}
+use Rattle.run.specs.Trail.{Entry, place, isTrue, decisions, variablesOn, lowered}
+use Rattle.run.specs.Run.{Run, clauseOf, cellOf, Action, stays, moves, implies, conflicts, otherWatch, action, onTrail, withWatches, withConflict, counted, performAction, visit, readList, propagateFrom, assignUnits}
 use Rattle.run.proofs.Trails.{place-within, place-true, true-place}
 use Rattle.run.proofs.Levels.{Suffix, whole, newer, suffix-place, suffix-on}
-use Rattle.run.proofs.Inductions.{read-induction, readNext, nextRead}
+use Rattle.run.proofs.Inductions.{reading-keeps, propagating-keeps, units-keep}
 
 -- the trail `old` with some implied literals more
 pub data Grown (old : List Entry) : List Entry → Type 0 where
@@ -71,51 +70,14 @@ visit-grows formula q c old run g = go (action (run .trail) (clauseOf formula c)
 
 pub reading-grows : (formula : Formula) (q : ℕ) (old : List Entry) (unread : List ℕ) (run : Run) → Grown old (run .trail)
     → Grown old (readList formula q unread run .trail)
-reading-grows formula q old unread run g =
-    ⊎-elim (λ k. k) (λ k. k)
-    (read-induction formula q (λ rest r. Grown old (r .trail)) (λ r. Grown old (r .trail))
-    (λ c rest r k e. visit-grows formula q c old r k)
-    (λ c rest r k e. visit-grows formula q c old r k)
-    unread run g)
+reading-grows formula q old = reading-keeps formula (λ r. Grown old (r .trail)) (λ p c r k. visit-grows formula p c old r k) q
 
 pub propagating-grows : (fuel : ℕ) (formula : Formula) (handled : ℕ) (old : List Entry) (run : Run) → Grown old (run .trail)
     → Grown old (propagateFrom fuel formula handled run .trail)
-unfolding propagateFrom
-propagating-grows zero formula handled old run g = g
-propagating-grows (suc fuel) formula handled old run g =
-    go (inConflict run) (ltb handled (length (run .trail)))
-    (propagating-grows fuel formula (suc handled) old (readNext formula handled run) (reading-grows formula (nextRead handled run) old _ run g))
-  where
-    rest : Run
-    rest = propagateFrom fuel formula (suc handled) (readNext formula handled run)
-
-    go : (b t : Bool) → Grown old (rest .trail) → Grown old (cond b run (cond t rest run) .trail)
-    go true t k = g
-    go false true k = k
-    go false false k = g
+propagating-grows fuel formula handled old = propagating-keeps formula (λ r. Grown old (r .trail)) (λ q c r k. visit-grows formula q c old r k) fuel handled
 
 -- the opening's one-literal clauses imply their literals
-unit-grows : (c : ℕ) (clause : List ℕ) (old : List Entry) (run : Run) → Grown old (run .trail) → Grown old (assignUnit c clause run .trail)
-unfolding assignUnit withConflict onTrail
-unit-grows c clause old run g = go (eqb (length clause) 1) (isTrue (run .trail) l) (isFalse (run .trail) l)
-  where
-    l : ℕ
-    l = getD clause 0 0
-
-    go : (single t f : Bool) → Grown old (cond single (cond t run (cond f (withConflict (suc c) run) (onTrail l false run))) run .trail)
-    go false t f = g
-    go true true f = g
-    go true false true = g
-    go true false false = more l g
-
 pub units-grow : (c : ℕ) (clauses : List (List ℕ)) (old : List Entry) (run : Run) → Grown old (run .trail)
     → Grown old (assignUnits c clauses run .trail)
-unfolding assignUnits
-units-grow c [] old run g = g
-units-grow c (clause ∷ clauses) old run g =
-    go (inConflict (assignUnit c clause run)) (units-grow (suc c) clauses old (assignUnit c clause run) (unit-grows c clause old run g))
-  where
-    go : (b : Bool) → Grown old (assignUnits (suc c) clauses (assignUnit c clause run) .trail)
-        → Grown old (cond b (assignUnit c clause run) (assignUnits (suc c) clauses (assignUnit c clause run)) .trail)
-    go true rest = unit-grows c clause old run g
-    go false rest = rest
+unfolding withConflict onTrail
+units-grow c clauses old = units-keep (λ r. Grown old (r .trail)) (λ l r k. more l k) (λ d r k. k) c clauses

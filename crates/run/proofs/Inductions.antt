@@ -1,16 +1,17 @@
--- The induction principles of reading a list and of propagating, over any pair of predicates: one while it goes on, one where it has ended.
+-- The induction principles of reading a list and of propagating, over any pair of predicates: one while it goes on, one where it has ended; and what
+-- every visit keeps, and every step of the opening.
 use Prim.Native.Nat.{ℕ, zero, suc, _+_, _≤_, _<_}
 use native.Mathlib.Omega.{arith}
 use mathlib.Core.Bool.{Bool, true, false, cond}
 use mathlib.Core.List.{List, [], _∷_}
-use mathlib.Core.Logic.{_⊎_, inl, inr}
+use mathlib.Core.Logic.{_⊎_, inl, inr, ⊎-elim}
 use mathlib.Core.Path.{_≡_, refl, sym, _∙_}
 use borrow.Author.Tests.{ltb-true, ltb-false, le-ltb}
-use lib.Dec.{ltb}
-use lib.ListN.{length}
+use lib.Dec.{ltb, eqb}
+use lib.ListN.{length, getD}
 use Rattle.book.specs.Formula.{Formula}
-use Rattle.run.specs.Trail.{opposite, literalAt}
-use Rattle.run.specs.Run.{Run, inConflict, visit, readList, propagateFrom, listOf}
+use Rattle.run.specs.Trail.{opposite, literalAt, isTrue, isFalse}
+use Rattle.run.specs.Run.{Run, onTrail, withConflict, inConflict, visit, readList, propagateFrom, assignUnit, assignUnits, listOf}
 
 -- Reading the list of q. While it goes on, `goes unread run` holds; a visit that ends in a conflict gives `ends run`.
 pub read-induction : (formula : Formula) (q : ℕ) (goes : List ℕ → Run → Type 0) (ends : Run → Type 0)
@@ -127,3 +128,52 @@ module _ (formula : Formula) (goes : ℕ → Run → Type 0) (ends : Run → Typ
           (propagate-done formula (suc more) handled run (quiet handled run g) d)
       go (inr end) b e later =
           propagate-stops formula (suc fuel) handled run (loud run end) ∙ sym (propagate-stops formula (suc more) handled run (loud run end))
+
+-- What every visit of a clause keeps, reading and propagating keep.
+module _ (formula : Formula) (K : Run → Type 0) (visits : (q c : ℕ) (run : Run) → K run → K (visit formula q c run)) where
+  pub reading-keeps : (q : ℕ) (unread : List ℕ) (run : Run) → K run → K (readList formula q unread run)
+  reading-keeps q unread run k =
+      ⊎-elim (λ kept. kept) (λ kept. kept)
+      (read-induction formula q (λ rest r. K r) K (λ c rest r kept e. visits q c r kept) (λ c rest r kept e. visits q c r kept) unread run k)
+
+  pub propagating-keeps : (fuel handled : ℕ) (run : Run) → K run → K (propagateFrom fuel formula handled run)
+  unfolding propagateFrom
+  propagating-keeps zero handled run k = k
+  propagating-keeps (suc fuel) handled run k =
+      go (inConflict run) (ltb handled (length (run .trail)))
+      (propagating-keeps fuel (suc handled) (readNext formula handled run) (reading-keeps (nextRead handled run) _ run k))
+    where
+      rest : Run
+      rest = propagateFrom fuel formula (suc handled) (readNext formula handled run)
+
+      go : (b t : Bool) → K rest → K (cond b run (cond t rest run))
+      go true t later = k
+      go false true later = later
+      go false false later = k
+
+-- What an implied literal keeps and a conflict keeps, the opening's one-literal clauses keep.
+module _ (K : Run → Type 0) (at-literal : (l : ℕ) (run : Run) → K run → K (onTrail l false run))
+    (at-conflict : (c : ℕ) (run : Run) → K run → K (withConflict (suc c) run)) where
+  unit-keeps : (c : ℕ) (clause : List ℕ) (run : Run) → K run → K (assignUnit c clause run)
+  unfolding assignUnit
+  unit-keeps c clause run k = go (eqb (length clause) 1) (isTrue (run .trail) l) (isFalse (run .trail) l)
+    where
+      l : ℕ
+      l = getD clause 0 0
+
+      go : (one on off : Bool) → K (cond one (cond on run (cond off (withConflict (suc c) run) (onTrail l false run))) run)
+      go false on off = k
+      go true true off = k
+      go true false true = at-conflict c run k
+      go true false false = at-literal l run k
+
+  pub units-keep : (c : ℕ) (clauses : List (List ℕ)) (run : Run) → K run → K (assignUnits c clauses run)
+  unfolding assignUnits
+  units-keep c [] run k = k
+  units-keep c (clause ∷ clauses) run k =
+      go (inConflict (assignUnit c clause run)) (units-keep (suc c) clauses (assignUnit c clause run) (unit-keeps c clause run k))
+    where
+      go : (t : Bool) → K (assignUnits (suc c) clauses (assignUnit c clause run))
+          → K (cond t (assignUnit c clause run) (assignUnits (suc c) clauses (assignUnit c clause run)))
+      go true later = unit-keeps c clause run k
+      go false later = later

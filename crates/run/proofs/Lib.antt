@@ -25,3 +25,4 @@ pub mod CeilingClause
 pub mod CeilingRun
 pub mod RunInduction
 pub mod Ceiling
+pub mod Worst

@@ -6,17 +6,16 @@ use mathlib.Core.Bool.{Bool, true, false, cond}
 use mathlib.Core.List.{List, [], _∷_}
 use mathlib.Core.Logic.{_⊎_, inl, inr, ⊎-elim}
 use lib.Dec.{eqb}
-use lib.ListN.{length, getD}
+use lib.ListN.{length}
 use borrow.Author.Tests.{eqb-true}
 use Rattle.base.proofs.Bools.{never}
 use Rattle.book.specs.Formula.{Formula, sound}
-use Rattle.run.specs.Trail.{isTrue, isFalse}
-use Rattle.run.specs.Run.{Run, listOf, onTrail, withConflict, visit, inConflict, propagate, fresh, assignUnit, assignUnits, openRun, decide, backtrack, fix}
+use Rattle.run.specs.Run.{Run, listOf, onTrail, withConflict, visit, inConflict, propagate, fresh, assignUnits, openRun, decide, backtrack, fix}
 use Rattle.run.specs.Calls.{Call, decision, backtrackBy, fixBy, decideRefusal, backtrackRefusal, fixRefusal, refusal, performCall, step, stepAll, reference}
 use Rattle.run.specs.Valid.{Valid}
 use Rattle.run.specs.Ceiling.{checksOf, countAtLatest, countBefore}
 use Rattle.run.specs.Progress.{Structure, Going, Ended, ReadingList}
-use Rattle.run.proofs.Inductions.{read-induction, nextRead, readNext, propagate-induction}
+use Rattle.run.proofs.Inductions.{read-induction, nextRead, readNext, propagate-induction, units-keep}
 use Rattle.run.proofs.Conflicts.{quiet-out}
 use Rattle.run.proofs.Visits.{Seen, seen, visit-outcome}
 use Rattle.run.proofs.Validity.{reading-begins, reading-ends, short, decision-accepted, decision-going}
@@ -35,9 +34,9 @@ pub record Keeps (formula : Formula) (c : ℕ) (K : ℕ → Run → Type 0) : Ty
 
 module _ (formula : Formula) (ok : sound formula ≡ true) (c : ℕ) (K : ℕ → Run → Type 0) (keeps : Keeps formula c K) where
   -- propagation keeps it
-  reading-keeps : (before handled q d : ℕ) (unread : List ℕ) (run : Run) → ReadingList formula handled q (d ∷ unread) run → K before run
+  visit-keeps : (before handled q d : ℕ) (unread : List ℕ) (run : Run) → ReadingList formula handled q (d ∷ unread) run → K before run
       → K before (visit formula q d run)
-  reading-keeps before handled q d unread run r k =
+  visit-keeps before handled q d unread run r k =
       keeps .at-visit before q d run (quiet-out run (r .going .quiet)) (r .going .structure) (seen r) k
 
   abbrev Goes : ℕ → ℕ → Run → Type 0
@@ -60,14 +59,14 @@ module _ (formula : Formula) (ok : sound formula ≡ true) (c : ℕ) (K : ℕ �
           → ReadingList formula handled q unread (visit formula q d r) × K before (visit formula q d r)
       on d unread r k e = (
         ⊎-elim (λ o. o) (λ o. absurd (never (o .loud) e)) (visit-outcome formula ok handled q d unread r (k .0)),
-        reading-keeps before handled q d unread r (k .0) (k .1),
+        visit-keeps before handled q d unread r (k .0) (k .1),
       )
 
       off : (d : ℕ) (unread : List ℕ) (r : Run) → ReadingList formula handled q (d ∷ unread) r × K before r → inConflict (visit formula q d r) ≡ true
           → Ends before (visit formula q d r)
       off d unread r k e = (
         ⊎-elim (λ o. absurd (never e (quiet-out (visit formula q d r) (o .going .quiet)))) (λ o. o) (visit-outcome formula ok handled q d unread r (k .0)),
-        reading-keeps before handled q d unread r (k .0) (k .1),
+        visit-keeps before handled q d unread r (k .0) (k .1),
       )
 
   propagate-keeps : (before handled : ℕ) (run : Run) → Going formula handled run ⊎ Ended formula run → K before run
@@ -83,31 +82,6 @@ module _ (formula : Formula) (ok : sound formula ≡ true) (c : ℕ) (K : ℕ �
   decide-keeps before l run accepted v k =
       propagate-keeps before (length (run .trail)) (onTrail l true run) (inl (decision-going v (decision-accepted formula l run accepted)))
       (keeps .at-literal before l true run k)
-
-  -- the opening keeps it
-  unit-keeps : (d : ℕ) (clause : List ℕ) (run : Run) → K 0 run → K 0 (assignUnit d clause run)
-  unfolding assignUnit
-  unit-keeps d clause run k = go (eqb (length clause) 1) (isTrue (run .trail) l) (isFalse (run .trail) l)
-    where
-      l : ℕ
-      l = getD clause 0 0
-
-      go : (one on off : Bool) → K 0 (cond one (cond on run (cond off (withConflict (suc d) run) (onTrail l false run))) run)
-      go false on off = k
-      go true true off = k
-      go true false true = keeps .at-unit-conflict 0 d run k
-      go true false false = keeps .at-literal 0 l false run k
-
-  units-keep : (d : ℕ) (clauses : List (List ℕ)) (run : Run) → K 0 run → K 0 (assignUnits d clauses run)
-  unfolding assignUnits
-  units-keep d [] run k = k
-  units-keep d (clause ∷ clauses) run k =
-      go (inConflict (assignUnit d clause run)) (units-keep (suc d) clauses (assignUnit d clause run) (unit-keeps d clause run k))
-    where
-      go : (t : Bool) → K 0 (assignUnits (suc d) clauses (assignUnit d clause run))
-          → K 0 (cond t (assignUnit d clause run) (assignUnits (suc d) clauses (assignUnit d clause run)))
-      go true later = unit-keeps d clause run k
-      go false later = later
 
   -- every call keeps it
   pub calls-keep : (calls : List Call) (before : ℕ) (run : Run) → Valid formula run → K before run
@@ -138,7 +112,7 @@ module _ (formula : Formula) (ok : sound formula ≡ true) (c : ℕ) (K : ℕ �
   unfolding openRun reference
   reference-keeps first calls =
       calls-keep calls 0 (openRun formula) (open-valid formula ok)
-      (propagate-keeps 0 0 units (opening-state formula ok) (units-keep 0 (formula .clauses) (fresh formula) first))
+      (propagate-keeps 0 0 units (opening-state formula ok) (units-keep (K 0) (λ l r k. keeps .at-literal 0 l false r k) (λ d r k. keeps .at-unit-conflict 0 d r k) 0 (formula .clauses) (fresh formula) first))
     where
       units : Run
       units = assignUnits 0 (formula .clauses) (fresh formula)

@@ -1,9 +1,11 @@
--- What statement 3 counts: the checks of a clause since the latest accepted backtrack of a list of calls, and their ceiling.
-use Prim.Native.Nat.{ℕ, _*_, _-_}
+-- What statement 3 counts: the checks of a clause since the latest accepted backtrack of a list of calls, and their ceiling. And W, the sum of the
+-- ceilings of all clauses.
+use Prim.Native.Nat.{ℕ, suc, _*_, _-_}
 use mathlib.Core.Bool.{cond}
-use mathlib.Core.List.{List, [], _∷_}
-use lib.Dec.{eqb}
-use lib.ListN.{getD}
+use mathlib.Core.List.{List, [], _∷_, map}
+use lib.Dec.{leb, eqb}
+use lib.ListN.{length, getD}
+use Rattle.base.specs.Lists.{sum}
 use Rattle.book.specs.Formula.{Formula}
 use Rattle.run.specs.Run.{Run, openRun}
 use Rattle.run.specs.Calls.{Call, decision, backtrackBy, fixBy, backtrackRefusal, step, reference}
@@ -33,3 +35,18 @@ checksSince formula c calls = checksOf (reference formula calls) c - countBefore
 -- the ceiling of a clause of n ≥ 2 literals in one period
 abbrev pub ceiling : ℕ → ℕ
 ceiling n = 2 * n - 3
+
+-- The most checks of a clause in one period; one of fewer than two literals costs none.
+unfoldable pub clauseWorst : List ℕ → ℕ
+clauseWorst clause = cond (leb 2 (length clause)) (ceiling (length clause)) 0
+
+-- W: the most checks of all clauses in one period.
+unfoldable pub worst : Formula → ℕ
+worst formula = sum (map clauseWorst (formula .clauses))
+
+-- how many backtracks a list of calls asks for, accepted or not
+unfoldable pub backtracksAsked : List Call → ℕ
+backtracksAsked [] = 0
+backtracksAsked (decision l ∷ calls) = backtracksAsked calls
+backtracksAsked (backtrackBy k ∷ calls) = suc (backtracksAsked calls)
+backtracksAsked (fixBy f ∷ calls) = backtracksAsked calls

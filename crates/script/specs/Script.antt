@@ -3,6 +3,7 @@ use Prim.Native.Nat.{ℕ}
 use mathlib.Core.Bool.{cond}
 use mathlib.Core.List.{List, [], _∷_}
 use lib.Dec.{eqb}
+use Rattle.base.specs.Lists.{until}
 use Rattle.book.specs.Formula.{positive, negative}
 use Rattle.book.specs.Text.{lineEnd, unsigned, decimal}
 use Rattle.book.specs.Reading.{onto}
@@ -13,6 +14,10 @@ use Rattle.script.specs.declared.Line.the-variants.{Choose, Back, Malfor
 unfoldable pub scriptLines : List ℕ → List (List ℕ)
 scriptLines [] = []
 scriptLines (byte ∷ bytes) = cond (lineEnd byte) ([] ∷ scriptLines bytes) (onto byte (scriptLines bytes))
+
+-- the bytes of a first line: those before the first byte 10, or all
+abbrev pub lineBytes : List ℕ → List ℕ
+lineBytes bytes = until lineEnd bytes
 
 -- 1 to 9 digits, and nothing more
 unfoldable pub numbered : (ℕ → Line) → List ℕ → Line

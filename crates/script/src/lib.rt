@@ -2,7 +2,8 @@
 mod writing;
 
 ghost use mathlib.Core.Path.{_≡_};
-ghost use Rattle.script.specs.Script.{lineOf};
+ghost use lib.ListN.{length};
+ghost use Rattle.script.specs.Script.{lineBytes, lineOf};
 ghost use Rattle.base.specs.Lists.{copied};
 ghost use Rattle.script.specs.Buffer.{fitting};
 ghost use Rattle.script.specs.Answers.{impliedLine, clauseLine, backLine, refusedLine, endLine};
@@ -24,6 +25,20 @@ pub enum Line {
 pub enum Cause {
     Opening,
     Decision(u32),
+}
+
+// Where the first line ends: as many bytes as stand before the first byte 10, or all.
+pub fn line_end(bytes: &[u8]) -> usize
+    ensures { λ r. ⌜ r ≡ length (lineBytes (now (bytes .entry))) ⌝ }
+{
+    let mut i = 0;
+    while i < bytes.len() {
+        if bytes[i] == 10 {
+            return i;
+        }
+        i += 1;
+    }
+    i
 }
 
 // Reads one line, without its byte 10.

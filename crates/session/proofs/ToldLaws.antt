@@ -1,11 +1,14 @@
 -- What an answer tells of its outcome, for the crates that call `session`.
-use Prim.Native.Nat.{ℕ}
+use Prim.Native.Nat.{ℕ, _-_}
 use mathlib.Core.Path.{_≡_, refl, sym}
 use mathlib.Core.Bool.{Bool, true, false, cond}
 use native.Mathlib.Omega.{arith}
 use borrow.Author.Tests.{eqb-true}
 use lib.Dec.{eqb}
-use Rattle.session.specs.Outcomes.{Outcome, refused, accepted, outcome, countOf}
+use lib.ListN.{length}
+use Rattle.run.specs.Run.{Run, inConflict}
+use Rattle.session.specs.Outcomes.{Outcome, refused, accepted, outcome, propagatedAnswer, answerOf, countOf}
+use Rattle.session.specs.declared.Answer.the-variants as answer
 use Rattle.session.specs.declared.Count.the-variants as count
 
 -- an outcome is accepted where there is no refusal number, and refused by another number than 0
@@ -32,3 +35,13 @@ count-of n (accepted m) e = cc e
 pub count-refused : (n : ℕ) (o : Outcome ℕ) → count.Refused n ≡ countOf o → o ≡ refused n
 count-refused n (refused m) e = cc e
 count-refused n (accepted m) e = let z : _≡_ {A = ℕ} 0 1 = cc e in absurd (omega arith)
+
+-- the answer of an opening or a decision tells a refusal
+pub answer-refused : (before n : ℕ) (o : Outcome Run) → answerOf before o ≡ answer.Refused n → o ≡ refused n
+unfolding propagatedAnswer
+answer-refused before n (refused m) e = cc e
+answer-refused before n (accepted run) e = absurd (propagated (inConflict run) e)
+  where
+    propagated : (c : Bool) → cond c (answer.Conflict (run .conflict)) (answer.Implied (length (run .trail) - before)) ≡ answer.Refused n → ⊥
+    propagated true e = let z : _≡_ {A = ℕ} 0 1 = cc e in absurd (omega arith)
+    propagated false e = let z : _≡_ {A = ℕ} 0 1 = cc e in absurd (omega arith)

@@ -1,11 +1,8 @@
 -- `tariff_figures` meets its contract: four stores are the copy of what fits. Assumes nothing.
-use Prim.Native.Nat.{ℕ}
-use mathlib.Core.Path.{_≡_, refl, ap, sym, _∙_}
-use mathlib.Core.List.{List, [], _∷_}
+use mathlib.Core.Path.{ap, sym, _∙_}
+use mathlib.Core.List.{[], _∷_}
 use denote.Ref.{now}
-use lib.ListN.{length, set}
-use lib.Seq.{take-nil}
-use Rattle.base.specs.Lists.{copied}
+use Rattle.base.proofs.Copies.{stored-none, stored-more}
 use Rattle.session.specs.declared.Shown.{Shown}
 use Rattle.capi.specs.Codes.{figuresCode, figuresAfter}
 use borrow.Author.Needs.{needs}
@@ -39,21 +36,6 @@ refusal-requires c κs = search needs
 same-length : tie.Need-same-length
 same-length c = search needs
 
-module _ (a b c d : ℕ) where
-  stored : (before : List ℕ) → set (set (set (set before 0 a) 1 b) 2 c) 3 d ≡ copied (a ∷ b ∷ c ∷ d ∷ []) before
-  unfolding copied
-  stored [] = refl
-  stored (v ∷ []) = refl
-  stored (v ∷ w ∷ []) = refl
-  stored (v ∷ w ∷ x ∷ []) = refl
-  stored (v ∷ w ∷ x ∷ y ∷ rest) = rw (take-nil {A = ℕ} (length rest)) refl
-
-  -- what each store left, from the last back to the first
-  stored-each : (before one two three after : List ℕ)
-      → after ≡ set three 3 d → three ≡ set two 2 c → two ≡ set one 1 b → one ≡ set before 0 a
-      → after ≡ copied (a ∷ b ∷ c ∷ d ∷ []) before
-  stored-each before one two three after p q r s = p ∙ rw (q, r, s) (stored before)
-
 returns : tie.Need-returns
 returns c =
     let after-put4 = c .before .before in
@@ -63,10 +45,13 @@ returns c =
     let after-decisions = after-put .before .before .before in
     let after-figures = after-decisions .before .before in
     let entry = after-figures .before .before .before .before in
+    let buffer = now (entry .args .out) in
     let told = sym (after-decisions .decisions .given .1) ∙ after-figures .figures .ensures in (
       ap figuresCode told,
-      stored-each _ _ _ _ (now (entry .args .out)) _ _ _ _ (after-put4 .put4 .ensures) (after-put3 .put3 .ensures) (after-put2 .put2 .ensures) (after-put .put .ensures)
-          ∙ ap (λ (s : Shown). figuresAfter s (now (entry .args .out))) told,
+      stored-more buffer (_ ∷ _ ∷ _ ∷ []) _
+          (stored-more buffer (_ ∷ _ ∷ []) _ (stored-more buffer (_ ∷ []) _ (stored-more buffer [] _ (stored-none buffer) (after-put .put .ensures)) (after-put2 .put2 .ensures)) (after-put3 .put3 .ensures))
+          (after-put4 .put4 .ensures)
+          ∙ ap (λ (s : Shown). figuresAfter s buffer) told,
     )
 
 returns-2 : tie.Need-returns-2

@@ -1,25 +1,14 @@
--- The end of a line, and a line that is kept in a buffer.
+-- A line that is kept in a buffer.
 use Prim.Native.Nat.{ℕ, _+_, _-_, _≤_, _<_}
 use mathlib.Core.Path.{_≡_, sym, _∙_}
-use mathlib.Core.Bool.{true, false}
 use mathlib.Core.List.{List, [], _++_, append-nil}
 use native.Mathlib.Omega.{arith}
-use borrow.Author.Tests.{eq-eqb, ne-eqb}
 use lib.ListN.{length, take, drop, length-take, length-drop, drop-of-length-le}
 use lib.Seq.{take-all, drop-nil}
 use Rattle.base.specs.Lists.{copied}
 use Rattle.base.proofs.Lists.{tail-whole, tail-back}
-use Rattle.book.specs.Text.{lineEnd}
 use Rattle.script.specs.Buffer.{fitting}
 use Rattle.dialog.specs.Taking.{keptAfter, lineAfter}
-
-pub byte-ends : (byte : ℕ) → byte ≡ 10 → lineEnd byte ≡ true
-unfolding lineEnd
-byte-ends byte e = eq-eqb byte 10 e
-
-pub byte-goes-on : (byte : ℕ) → (byte ≡ 10 → ⊥) → lineEnd byte ≡ false
-unfolding lineEnd
-byte-goes-on byte e = ne-eqb byte 10 e
 
 -- bytes that are stored in the part of the buffer behind those that are kept
 module _ (line : List ℕ) (kept : ℕ) (bytes part : List ℕ) (r : ℕ) (count : r ≡ fitting bytes (take (length line - kept) (drop kept line)))

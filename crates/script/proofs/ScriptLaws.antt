@@ -1,14 +1,27 @@
--- The lines of a script whose first line has begun before: what a part of the script adds to them.
+-- The lines of a script: the byte that ends one, what a part of the script adds to a line that has begun before, the first line and the rest.
 use Prim.Native.Nat.{ℕ, suc, _≤_, _<_}
 use native.Mathlib.Omega.{arith}
 use mathlib.Core.Path.{_≡_, refl, sym, ap, _∙_}
 use mathlib.Core.Bool.{Bool, true, false, cond}
 use mathlib.Core.List.{List, [], _∷_, _++_, append-assoc, append-nil}
-use lib.ListN.{length, drop}
+use borrow.Author.Tests.{eq-eqb, ne-eqb, ltb-true, ltb-false}
+use lib.Dec.{ltb}
+use lib.ListN.{length, drop, length-append, drop-of-length-le}
+use lib.Seq.{take-all}
 use Rattle.base.specs.Lists.{until}
+use Rattle.base.proofs.Until.{take-until}
 use Rattle.book.specs.Text.{lineEnd}
 use Rattle.book.specs.Reading.{onto}
-use Rattle.script.specs.Script.{scriptLines}
+use Rattle.script.specs.Script.{scriptLines, lineBytes}
+
+-- the byte that ends a line
+pub byte-ends : (byte : ℕ) → byte ≡ 10 → lineEnd byte ≡ true
+unfolding lineEnd
+byte-ends byte e = eq-eqb byte 10 e
+
+pub byte-goes-on : (byte : ℕ) → (byte ≡ 10 → ⊥) → lineEnd byte ≡ false
+unfolding lineEnd
+byte-goes-on byte e = ne-eqb byte 10 e
 
 -- the lines, with the bytes that have begun in front
 unfoldable pub joined : List ℕ → List (List ℕ) → List (List ℕ)
@@ -20,6 +33,11 @@ pub joined-none : (lines : List (List ℕ)) → joined [] lines ≡ lines
 unfolding joined
 joined-none [] = refl
 joined-none (line ∷ lines) = refl
+
+joined-alone : (begun : List ℕ) → 0 < length begun → joined begun [] ≡ begun ∷ []
+unfolding joined
+joined-alone [] h = absurd (omega arith)
+joined-alone (b ∷ begun) h = refl
 
 joined-onto : (begun : List ℕ) (byte : ℕ) (lines : List (List ℕ)) → joined (begun ++ (byte ∷ [])) lines ≡ joined begun (onto byte lines)
 unfolding onto joined
@@ -66,3 +84,46 @@ module _ (rest : List ℕ) where
           sym (joined-onto begun byte (scriptLines (bytes ++ rest)))
           ∙ ih (omega arith)
           ∙ ap (λ (l : List ℕ). l ∷ scriptLines (drop (suc (length (until lineEnd bytes))) bytes ++ rest)) (append-assoc begun (byte ∷ []) (until lineEnd bytes))
+
+-- A script that is not empty: its first line, and the lines behind the byte 10 of it.
+pub lines-first : (script : List ℕ) → 0 < length script
+    → scriptLines script ≡ lineBytes script ∷ scriptLines (drop (suc (length (lineBytes script))) script)
+unfolding scriptLines
+lines-first script some = go (ltb (length (lineBytes script)) (length script)) refl
+  where
+    whole : joined [] (scriptLines (script ++ [])) ≡ scriptLines script
+    whole = joined-none (scriptLines (script ++ [])) ∙ ap scriptLines (append-nil script)
+
+    go : (b : Bool) → ltb (length (lineBytes script)) (length script) ≡ b
+        → scriptLines script ≡ lineBytes script ∷ scriptLines (drop (suc (length (lineBytes script))) script)
+    go true e =
+        sym whole
+        ∙ lines-ended [] [] script (ltb-true (length (lineBytes script)) (length script) e)
+        ∙ ap (λ (rest : List ℕ). lineBytes script ∷ scriptLines rest) (append-nil (drop (suc (length (lineBytes script))) script))
+    go false e =
+        let all : length script ≤ length (lineBytes script) = ltb-false (length (lineBytes script)) (length script) e in
+        let none : drop (suc (length (lineBytes script))) script ≡ [] = drop-of-length-le script {i = suc (length (lineBytes script))} (omega arith) in
+        let same : lineBytes script ≡ script = sym (take-until lineEnd script) ∙ take-all (length (lineBytes script)) script all in
+        sym whole ∙ lines-kept [] [] script all ∙ rw (none, same) (joined-alone script some)
+
+onto-append : (byte : ℕ) (lines others : List (List ℕ)) → 0 < length lines → onto byte (lines ++ others) ≡ onto byte lines ++ others
+unfolding onto
+onto-append byte [] others h = absurd (omega arith)
+onto-append byte (line ∷ lines) others h = refl
+
+-- A script that goes on behind a byte 10: the lines up to there, and the others.
+pub lines-parted : (first rest : List ℕ) → scriptLines (first ++ (10 ∷ rest)) ≡ scriptLines (first ++ (10 ∷ [])) ++ scriptLines rest
+unfolding scriptLines lineEnd
+lines-parted [] rest = refl
+lines-parted (byte ∷ first) rest = go (lineEnd byte) (lines-parted first rest)
+  where
+    front : List (List ℕ)
+    front = scriptLines (first ++ (10 ∷ []))
+
+    some : 0 < length front
+    some = omega (arith, ap length (lines-first (first ++ (10 ∷ [])) (omega (arith, length-append first (10 ∷ [])))))
+
+    go : (e : Bool) → scriptLines (first ++ (10 ∷ rest)) ≡ front ++ scriptLines rest
+        → cond e ([] ∷ scriptLines (first ++ (10 ∷ rest))) (onto byte (scriptLines (first ++ (10 ∷ rest)))) ≡ cond e ([] ∷ front) (onto byte front) ++ scriptLines rest
+    go true ih = ap (λ (lines : List (List ℕ)). [] ∷ lines) ih
+    go false ih = ap (onto byte) ih ∙ onto-append byte front (scriptLines rest) some

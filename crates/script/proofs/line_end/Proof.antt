@@ -5,9 +5,9 @@ use native.Mathlib.Omega.{arith}
 use lib.ListN.{length}
 use Rattle.base.proofs.Until.{Running, running-start, running-step, running-stop, running-end}
 use Rattle.book.specs.Text.{lineEnd}
-use Rattle.dialog.proofs.lines.Laws.{byte-ends, byte-goes-on}
-use Rattle.dialog.proofs.lines.line_end.Statement.{statement}
-use Rattle.dialog.proofs.lines.line_end.Tie as tie
+use Rattle.script.proofs.ScriptLaws.{byte-ends, byte-goes-on}
+use Rattle.script.proofs.line_end.Statement.{statement}
+use Rattle.script.proofs.line_end.Tie as tie
 
 abbrev Inv-loop : tie.InvT-loop
 Inv-loop bytes i₀ i = Running lineEnd bytes 0 i

@@ -1,0 +1,2 @@
+-- The definitions of `quote`.
+pub mod Quote
