@@ -8,7 +8,6 @@ use native.Mathlib.Numerals.{add-one}
 use borrow.Author.Tests.{le-leb, lt-leb}
 use lib.ListN.{length, getD, length-map, List·getD-map}
 use Rattle.base.proofs.Sums.{Summed, summed-none, summed-more, summed-all}
-use Rattle.book.specs.Formula.{maxLiterals}
 use Rattle.book.specs.Numbers.{clausesOf, clauseStart, clauseAt, formulaOf, wellFormed}
 use Rattle.book.proofs.PartLaws.{clauses-counted, clause-of-formula, clause-inside, length-clause}
 use Rattle.book.proofs.WellFormedLaws.{well-formed-parted, well-formed-sound}
@@ -59,6 +58,6 @@ module _ (book : List ℕ) where
   worst-all sum c r h = summed-all _ sum c (r .summed) (omega (arith, counted))
 
   -- so far it is small
-  pub worst-small : wellFormed book ≡ true → (sum c : ℕ) → WorstBefore sum c → sum ≤ 2 * maxLiterals
+  pub worst-small : wellFormed book ≡ true → (sum c : ℕ) → WorstBefore sum c → sum ≤ 11928
   unfolding worst
   worst-small well sum c r = omega (arith, r .summed .rest, worst-within (formulaOf book) (well-formed-sound book well))

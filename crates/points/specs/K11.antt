@@ -35,6 +35,10 @@ worstOf n = clauseWorst (replicate n 2)
 abbrev mixed : Formula
 mixed = record { variables = 3; clauses = (2 ∷ 4 ∷ 6 ∷ []) ∷ [] ∷ (4 ∷ []) ∷ (3 ∷ 7 ∷ []) ∷ [] }
 
+-- 6,000 literals in 24 clauses, the fewest that hold so many
+abbrev full : Formula
+full = record { variables = 255; clauses = replicate 23 (replicate 255 2) ++ (replicate 135 2 ∷ []) }
+
 pub record Points : Type 0 where
   -- The listing: 3 + 1 + 3 checks at most between two take-backs, two lines `b k`, though `b 3` is refused; the script then costs 4.
   pub quoted : quoteAnswer book script ≡ Of 43 7 2 21
@@ -54,6 +58,7 @@ pub record Points : Type 0 where
   pub three-literals : worstOf 3 ≡ 3
   pub longest : worstOf 255 ≡ 507
   pub together : worst mixed ≡ 4
+  pub greatest : worst full ≡ 11928
   pub mixed-quoted : quoteAnswer (numbersOf mixed) (bytes "b 1\n") ≡ Of 44 4 1 8
   pub no-clauses : quoteAnswer (numbersOf (noClauses 4)) (bytes "b 1\n") ≡ Of 25 0 1 0
   -- Lines that count, and lines that do not.
@@ -96,6 +101,7 @@ points =
       three-literals = refl;
       longest = refl;
       together = refl;
+      greatest = refl;
       mixed-quoted = refl;
       no-clauses = refl;
       counts-zero = refl;

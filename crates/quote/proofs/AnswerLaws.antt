@@ -8,7 +8,6 @@ use native.Mathlib.Omega.{arith}
 use borrow.Author.Tests.{ltb-false, lt-ltb, le-ltb}
 use lib.Dec.{ltb, eqb}
 use Rattle.base.proofs.Bools.{never}
-use Rattle.book.specs.Formula.{maxLiterals}
 use Rattle.book.specs.Numbers.{variablesOf, clausesOf, wellFormed, formulaOf}
 use Rattle.book.proofs.WellFormedLaws.{well-formed-sound}
 use Rattle.run.specs.Ceiling.{worst}
@@ -20,6 +19,13 @@ use Rattle.session.proofs.ToldLaws.{outcome-accepted, outcome-refused, count-of
 use Rattle.quote.specs.Quote.{backLines, maxBackLines, quotedCeiling, quoteAnswer}
 use Rattle.quote.specs.declared.Quote.{Quote}
 use Rattle.quote.specs.declared.Quote.the-variants.{Of, Refused}
+
+-- the quoted ceiling is small
+pub product-small : (book : List ℕ) (w b : ℕ) → wellFormed book ≡ true → w ≡ worst (formulaOf book) → b ≤ maxBackLines → w * (b + 1) ≤ 11928 * (maxBackLines + 1)
+product-small book w b well is few =
+    let small : w ≤ 11928 = omega (arith, worst-within (formulaOf book) (well-formed-sound book well)) in
+    let lines : b + 1 ≤ maxBackLines + 1 = omega arith in
+    mul-le-mul small lines
 
 module _ (book script : List ℕ) where
   abbrev needed : ℕ
@@ -51,13 +57,6 @@ module _ (book script : List ℕ) where
     pub answers-many : maxBackLines < b → Refused 17 ≡ quoteAnswer book script
     unfolding quoteAnswer
     answers-many many = rw (well, ← lines, lt-ltb maxBackLines b many)
-
-    -- the product has 64 bits
-    pub product-small : b ≤ maxBackLines → (w : ℕ) → w ≡ worst (formulaOf book) → w * (b + 1) ≤ 2 * maxLiterals * (maxBackLines + 1)
-    product-small few w is =
-        let small : w ≤ 2 * maxLiterals = omega (arith, worst-within (formulaOf book) (well-formed-sound book well)) in
-        let lines : b + 1 ≤ maxBackLines + 1 = omega arith in
-        mul-le-mul small lines
 
     pub answers-quote : b ≤ maxBackLines → (w : ℕ) → w ≡ worst (formulaOf book) → Of n w b (w * (b + 1)) ≡ quoteAnswer book script
     unfolding quoteAnswer

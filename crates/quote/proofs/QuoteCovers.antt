@@ -19,7 +19,7 @@ use Rattle.book.proofs.WellFormedLaws.{well-formed-sound}
 use Rattle.run.specs.Trail as trails
 use Rattle.run.specs.Run.{Run, openRun}
 use Rattle.run.specs.Calls.{Call, reference}
-use Rattle.run.specs.Ceiling.{backtracksAsked}
+use Rattle.run.specs.Ceiling.{worst, backtracksAsked}
 use Rattle.run.proofs.Worst.{total-quoted}
 use Rattle.layout.specs.Layout.{requiredLength}
 use Rattle.session.specs.Outcomes.{outcome, answerOf, openRefusal, openAnswer, totalAnswer, replayNumbers}
@@ -32,7 +32,7 @@ use Rattle.script.specs.Desk.{propagatedLine, outputFor, deskOutput}
 use Rattle.quote.specs.Quote.{scriptCalls, backLines, quoteAnswer, EndsWithin}
 use Rattle.quote.specs.declared.Quote.the-variants.{Of}
 use Rattle.quote.proofs.ScriptCalls.{back-lines, asked-part, script-run, back-lines-part}
-use Rattle.quote.proofs.AnswerLaws.{Quoted, quoted}
+use Rattle.quote.proofs.AnswerLaws.{product-small, Quoted, quoted}
 
 module _ (book script : List ℕ) (n w b most : ℕ) (e : quoteAnswer book script ≡ Of n w b most) where
   told : Quoted book script n w b most
@@ -85,6 +85,10 @@ module _ (book script : List ℕ) (n w b most : ℕ) (e : quoteAnswer book scrip
       → EndsWithin most (deskOutput text (first ++ (10 ∷ [])))
   quote-covers-part first rest parts =
       script-within (first ++ (10 ∷ [])) (omega (arith, told .lines-are, ap backLines parts, back-lines-part first rest))
+
+  -- It has 64 bits: it is at most 11,928 × 1,000,001.
+  pub quote-most : most ≤ 11928011928
+  quote-most = omega (arith, told .ceiling-is, product-small book (worst (formulaOf book)) (backLines script) (told .well) refl (omega (arith, told .lines-are, told .few-lines)))
 
   -- The opening gives 10 exactly if it is lent fewer numbers than quoted.
   pub quote-length : (room : ℕ) → (openAnswer book room ≡ answer.Refused 10) ↔ (room < n)

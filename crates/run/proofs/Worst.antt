@@ -4,13 +4,14 @@ use native.Mathlib.Omega.{arith}
 use native.Mathlib.Nat.{add-mul, mul-le-mul-left, le-trans}
 use mathlib.Core.Path.{_≡_, refl, _∙_}
 use mathlib.Core.Bool.{Bool, true, false, cond}
-use mathlib.Core.List.{List, [], _∷_, map}
+use mathlib.Core.List.{List, [], _∷_, _++_, map}
 use lib.Dec.{leb}
 use lib.ListN.{length, getD, length-append}
 use borrow.Author.Tests.{leb-true, leb-false}
-use Rattle.base.specs.Lists.{flat, sum}
-use Rattle.book.specs.Formula.{Formula, maxLiterals, sound}
-use Rattle.book.proofs.SoundLaws.{formula-parts}
+use Rattle.base.specs.Lists.{all, flat, sum}
+use Rattle.base.proofs.Bools.{and-parts}
+use Rattle.book.specs.Formula.{Formula, maxClause, soundClause, sound}
+use Rattle.book.proofs.SoundLaws.{clause-parts, formula-parts}
 use Rattle.run.specs.Run.{Run, clauseOf, size, onTrail, withConflict, fresh, assignUnits, propagate, openRun, decide, backtrack, fix}
 use Rattle.run.specs.Calls.{Call, decision, backtrackBy, fixBy, decideRefusal, backtrackRefusal, fixRefusal, refusal, performCall, step, stepAll, reference}
 use Rattle.run.specs.Ceiling.{checksOf, ceiling, clauseWorst, worst, backtracksAsked}
@@ -50,24 +51,46 @@ module _ (formula : Formula) (ok : sound formula ≡ true) (calls : List Call) w
       sum-within (reference formula calls .checks) (formula .clauses) (reference formula calls .backtracks + 1)
       (reference-valid formula ok calls .checks-length) clause-within
 
--- W is at most two checks for each literal.
-clause-worst-small : (clause : List ℕ) → clauseWorst clause ≤ 2 * length clause
-unfolding clauseWorst
-clause-worst-small clause = go (leb 2 (length clause))
+-- by the number k of clauses that are scanned: each of them leaves 3 of the two checks a literal, and costs at most 507
+record Priced (w literals k : ℕ) : Type 0 where
+  by-literals : w + 3 * k ≤ 2 * literals
+  by-clauses : w ≤ 507 * k
+
+priced-more : (variables : ℕ) (clause : List ℕ) (clauses : List (List ℕ)) (k : ℕ) → soundClause variables clause ≡ true
+    → Priced (sum (map clauseWorst clauses)) (length (flat clauses)) k
+    → (more : ℕ) × Priced (sum (map clauseWorst (clause ∷ clauses))) (length (flat (clause ∷ clauses))) more
+unfolding clauseWorst sum flat
+priced-more variables clause clauses k ok p = go (leb 2 (length clause)) refl
   where
-    go : (b : Bool) → cond b (ceiling (length clause)) 0 ≤ 2 * length clause
-    go true = omega arith
-    go false = omega arith
+    short : length clause ≤ maxClause
+    short = clause-parts variables clause ok .short
 
-sum-worst-small : (clauses : List (List ℕ)) → sum (map clauseWorst clauses) ≤ 2 * length (flat clauses)
-unfolding sum flat
-sum-worst-small [] = omega arith
-sum-worst-small (clause ∷ clauses) =
-    omega (arith, clause-worst-small clause, sum-worst-small clauses, length-append clause (flat clauses))
+    together : length (clause ++ flat clauses) ≡ length clause + length (flat clauses)
+    together = length-append clause (flat clauses)
 
-pub worst-within : (formula : Formula) → sound formula ≡ true → worst formula ≤ 2 * maxLiterals
+    go : (b : Bool) → leb 2 (length clause) ≡ b
+        → (more : ℕ) × Priced (cond b (ceiling (length clause)) 0 + sum (map clauseWorst clauses)) (length (clause ++ flat clauses)) more
+    go true e =
+        let many = leb-true 2 (length clause) e in
+        (suc k, record { by-literals = omega (arith, p .by-literals, short, together); by-clauses = omega (arith, p .by-clauses, short) })
+    go false e = (k, record { by-literals = omega (arith, p .by-literals, together); by-clauses = omega (arith, p .by-clauses) })
+
+priced : (variables : ℕ) (clauses : List (List ℕ)) → all (soundClause variables) clauses ≡ true
+    → (k : ℕ) × Priced (sum (map clauseWorst clauses)) (length (flat clauses)) k
+unfolding sum flat all
+priced variables [] ok = (0, record { by-literals = omega arith; by-clauses = omega arith })
+priced variables (clause ∷ clauses) ok =
+    let parts = and-parts (soundClause variables clause) (all (soundClause variables) clauses) ok in
+    let rest = priced variables clauses (parts .1) in
+    priced-more variables clause clauses (rest .0) (parts .0) (rest .1)
+
+-- W is at most 2 × 6,000 − 3 × 24: so many clauses it takes to hold 6,000 literals, and fewer clauses cost less.
+pub worst-within : (formula : Formula) → sound formula ≡ true → worst formula ≤ 11928
 unfolding worst
-worst-within formula ok = omega (arith, sum-worst-small (formula .clauses), formula-parts formula ok .few-literals)
+worst-within formula ok =
+    let parts = formula-parts formula ok in
+    let p = priced (formula .variables) (formula .clauses) (parts .sound-clauses) in
+    omega (arith, p .1 .by-literals, p .1 .by-clauses, parts .few-literals)
 
 -- An opening counts no backtrack, a call at most the one that it asks for.
 module _ (formula : Formula) where

@@ -1,7 +1,9 @@
 -- `quote_script` meets its contract. Assumes nothing.
+use mathlib.Core.Bool.{true}
 use mathlib.Core.Path.{_≡_, sym, _∙_}
 use native.Mathlib.Omega.{arith}
 use borrow.Author.Needs.{needs}
+use Rattle.book.specs.Numbers.{wellFormed}
 use Rattle.session.specs.Outcomes.{requiredAnswer}
 use Rattle.session.specs.declared.Count.the-variants as count
 use Rattle.quote.proofs.AnswerLaws.{answers-fault, well, answers-many, product-small, answers-quote}
@@ -29,8 +31,12 @@ told c = sym (c .before .before .length .given .1) ∙ c .before .before .before
 returns : tie.Need-returns
 returns c = answers-many _ _ _ _ (told (c .before)) (c .before .back-lines .ensures) (c .if1 .taken)
 
+-- of book numbers of the right form
+right : (c : tie.Else1) → wellFormed (c .before .before .before .before .before .before .before .before .args .book .now) ≡ true
+right c = well _ (c .before .before .before .before .before .before .before .before .args .script .now) _ _ (told (c .before)) (c .before .back-lines .ensures)
+
 worst-requires : tie.Need-worst-requires
-worst-requires c κs = well _ (c .before .before .before .before .before .before .before .before .args .script .now) _ _ (told (c .before)) (c .before .back-lines .ensures)
+worst-requires c κs = right c
 
 cast-t10 : tie.Need-cast-t10
 cast-t10 c = search needs
@@ -42,9 +48,7 @@ add-t13 : tie.Need-add-t13
 add-t13 c = search needs
 
 mul-t14 : tie.Need-mul-t14
-mul-t14 c =
-    let lines = c .before .before in
-    omega (arith, product-small _ _ _ _ (told lines) (lines .back-lines .ensures) (omega (arith, c .before .if1 .left)) _ (c .worst .ensures))
+mul-t14 c = omega (arith, product-small _ _ (c .before .before .back-lines .result) (right (c .before)) (c .worst .ensures) (omega (arith, c .before .if1 .left)))
 
 returns-2 : tie.Need-returns-2
 returns-2 c = answers-fault _ _ _ (sym (c .before .number .given .1) ∙ c .before .before .before .required-length .ensures)
