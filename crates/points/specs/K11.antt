@@ -47,7 +47,7 @@ pub record Points : Type 0 where
   pub accepted-backtracks : reference listing (scriptCalls script) .backtracks ≡ 1
   -- A script without such lines still costs its opening and its choices.
   pub no-script : quoteAnswer book [] ≡ Of 43 7 0 7
-  pub choices-only : quoteAnswer book (bytes "-1\n-2\n") ≡ Of 43 7 0 7
+  pub decisions-only : quoteAnswer book (bytes "-1\n-2\n") ≡ Of 43 7 0 7
   -- The opening gives 10 exactly if lent fewer numbers.
   pub one-fewer : openRefusal book 42 ≡ 10
   pub as-quoted : openRefusal book 43 ≡ 0
@@ -72,7 +72,7 @@ pub record Points : Type 0 where
   pub not-a-blank-behind : backLines (bytes "b 1 \n") ≡ 0
   pub not-alone : backLines (bytes "b\nb \n") ≡ 0
   pub not-a-sign : backLines (bytes "b -1\nb +1\n") ≡ 0
-  pub not-a-choice : backLines (bytes "1\n-1\n0\n\n") ≡ 0
+  pub not-a-decision : backLines (bytes "1\n-1\n0\n\n") ≡ 0
   -- A front part that ends inside a line may have a line more: at a byte 10 it has not.
   pub part-inside : backLines (take 3 (bytes "b 1x\n")) ≡ 1
   pub whole : backLines (bytes "b 1x\n") ≡ 0
@@ -92,7 +92,7 @@ points =
       calls = refl;
       accepted-backtracks = refl;
       no-script = refl;
-      choices-only = refl;
+      decisions-only = refl;
       one-fewer = refl;
       as-quoted = refl;
       no-literals = refl;
@@ -114,7 +114,7 @@ points =
       not-a-blank-behind = refl;
       not-alone = refl;
       not-a-sign = refl;
-      not-a-choice = refl;
+      not-a-decision = refl;
       part-inside = refl;
       whole = refl;
       asked = refl;

@@ -10,10 +10,10 @@ use Rattle.base.specs.Lists.{all, distinct}
 use Rattle.base.proofs.Bools.{below}
 use Rattle.book.specs.Formula.{Formula}
 use Rattle.run.specs.Trail.{Entry, place, isTrue, decisions, variablesOn, lowered}
-use Rattle.run.specs.Run.{Run, clauseOf, cellOf, Action, stays, moves, implies, conflicts, otherWatch, action, onTrail, withWatches, withConflict, counted, performAction, visit, readList, propagateFrom, assignUnits}
+use Rattle.run.specs.Run.{Run, clauseOf, cellOf, Action, stays, moves, implies, conflicts, otherWatch, action, onTrail, withWatches, withConflict, counted, performAction, visit, propagateFrom, assignUnits}
 use Rattle.run.proofs.Trails.{place-within, place-true, true-place}
 use Rattle.run.proofs.Levels.{Suffix, whole, newer, suffix-place, suffix-on}
-use Rattle.run.proofs.Inductions.{reading-keeps, propagating-keeps, units-keep}
+use Rattle.run.proofs.Inductions.{propagating-keeps, units-keep}
 
 -- the trail `old` with some implied literals more
 pub data Grown (old : List Entry) : List Entry → Type 0 where
@@ -67,10 +67,6 @@ visit-grows formula q c old run g = go (action (run .trail) (clauseOf formula c)
     go (moves position made) = g
     go (implies made) = more (otherWatch (clauseOf formula c) (cellOf run c) q) g
     go (conflicts made) = g
-
-pub reading-grows : (formula : Formula) (q : ℕ) (old : List Entry) (unread : List ℕ) (run : Run) → Grown old (run .trail)
-    → Grown old (readList formula q unread run .trail)
-reading-grows formula q old = reading-keeps formula (λ r. Grown old (r .trail)) (λ p c r k. visit-grows formula p c old r k) q
 
 pub propagating-grows : (fuel : ℕ) (formula : Formula) (handled : ℕ) (old : List Entry) (run : Run) → Grown old (run .trail)
     → Grown old (propagateFrom fuel formula handled run .trail)

@@ -131,7 +131,7 @@ module _ (formula : Formula) (goes : ℕ → Run → Type 0) (ends : Run → Typ
 
 -- What every visit of a clause keeps, reading and propagating keep.
 module _ (formula : Formula) (K : Run → Type 0) (visits : (q c : ℕ) (run : Run) → K run → K (visit formula q c run)) where
-  pub reading-keeps : (q : ℕ) (unread : List ℕ) (run : Run) → K run → K (readList formula q unread run)
+  reading-keeps : (q : ℕ) (unread : List ℕ) (run : Run) → K run → K (readList formula q unread run)
   reading-keeps q unread run k =
       ⊎-elim (λ kept. kept) (λ kept. kept)
       (read-induction formula q (λ rest r. K r) K (λ c rest r kept e. visits q c r kept) (λ c rest r kept e. visits q c r kept) unread run k)
