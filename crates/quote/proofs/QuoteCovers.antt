@@ -16,8 +16,7 @@ use Rattle.book.specs.Answer.{readAnswer, numbersAfter}
 use Rattle.book.specs.declared.Reading.the-variants.{Book, Refused}
 use Rattle.book.proofs.Accepted.{read-formula}
 use Rattle.book.proofs.WellFormedLaws.{well-formed-sound}
-use Rattle.run.specs.Trail as trails
-use Rattle.run.specs.Run.{Run, openRun}
+use Rattle.run.specs.Run.{openRun}
 use Rattle.run.specs.Calls.{Call, reference}
 use Rattle.run.specs.Ceiling.{worst, backtracksAsked}
 use Rattle.run.proofs.Worst.{total-quoted}
@@ -61,28 +60,24 @@ module _ (book script : List ℕ) (n w b most : ℕ) (e : quoteAnswer book scrip
       quote-covers-calls (take j (scriptCalls script)) (omega (arith, asked-part j (scriptCalls script), back-lines script, told .lines-are)) buffer opens
 
   -- a script with at most b lines of the form `b k`
-  script-within : (part : List ℕ) → backLines part ≤ b → (text : List ℕ) → readText text ≡ accepted (formulaOf book) → EndsWithin most (deskOutput text part)
+  script-within : (part : List ℕ) → backLines part ≤ b → (text : List ℕ) → readText text ≡ accepted (formulaOf book) → EndsWithin most (formulaOf book) part (deskOutput text part)
   unfolding deskOutput outputFor
   script-within part few text read =
       let answers = script-run (formulaOf book) part in
-      let run : Run = reference (formulaOf book) (scriptCalls part) in
       let opening : List ℕ = propagatedLine Opening 0 (openRun (formulaOf book)) in
       record {
         before = opening ++ answers .0;
-        decisions = length (trails.decisions (run .trail));
-        backtracks = run .backtracks;
-        checks = sum (run .checks);
         ends = rw read (ap (λ (later : List ℕ). opening ++ later) (answers .1) ∙ sym (append-assoc opening (answers .0) _));
         within = calls-within (scriptCalls part) (omega (arith, back-lines part));
       }
 
   -- What the program prints for the script, on any text of this book: its last line shows at most the ceiling.
-  pub quote-covers : (text : List ℕ) → readText text ≡ accepted (formulaOf book) → EndsWithin most (deskOutput text script)
+  pub quote-covers : (text : List ℕ) → readText text ≡ accepted (formulaOf book) → EndsWithin most (formulaOf book) script (deskOutput text script)
   quote-covers = script-within script (omega (arith, told .lines-are))
 
   -- And so it would for the script up to any byte 10 of it.
   pub quote-covers-part : (first rest : List ℕ) → script ≡ first ++ (10 ∷ rest) → (text : List ℕ) → readText text ≡ accepted (formulaOf book)
-      → EndsWithin most (deskOutput text (first ++ (10 ∷ [])))
+      → EndsWithin most (formulaOf book) (first ++ (10 ∷ [])) (deskOutput text (first ++ (10 ∷ [])))
   quote-covers-part first rest parts =
       script-within (first ++ (10 ∷ [])) (omega (arith, told .lines-are, ap backLines parts, back-lines-part first rest))
 
@@ -113,7 +108,8 @@ module _ (book script : List ℕ) (n w b most : ℕ) (e : quoteAnswer book scrip
 
 -- The book of a text that `read` wrote to lent numbers: running the script on that text costs no more than is quoted for those numbers.
 pub quote-covers-text : (text buffer script : List ℕ) (v c l : ℕ) → readAnswer (readText text) (length buffer) ≡ Book v c l
-    → (n w b most : ℕ) → quoteAnswer (numbersAfter (readText text) buffer) script ≡ Of n w b most → EndsWithin most (deskOutput text script)
+    → (n w b most : ℕ) → quoteAnswer (numbersAfter (readText text) buffer) script ≡ Of n w b most
+    → EndsWithin most (formulaOf (numbersAfter (readText text) buffer)) script (deskOutput text script)
 quote-covers-text text buffer script v c l read n w b most e = go (readText text) refl read
   where
     numbers : List ℕ
@@ -125,7 +121,7 @@ quote-covers-text text buffer script v c l read n w b most e = go (readText text
     roomy formula true q z = let z : _≡_ {A = ℕ} 0 1 = cc in absurd (omega arith)
     roomy formula false q z = ltb-false (length buffer) (length (numbersOf formula)) q
 
-    go : (judged : Judged) → readText text ≡ judged → readAnswer judged (length buffer) ≡ Book v c l → EndsWithin most (deskOutput text script)
+    go : (judged : Judged) → readText text ≡ judged → readAnswer judged (length buffer) ≡ Book v c l → EndsWithin most (formulaOf numbers) script (deskOutput text script)
     go (refused number) q z = let z : _≡_ {A = ℕ} 0 1 = cc in absurd (omega arith)
     go (accepted formula) q z =
         let holds : formulaOf numbers ≡ formula = read-formula text buffer formula q (roomy formula (ltb (length buffer) (length (numbersOf formula))) refl z) .0 in

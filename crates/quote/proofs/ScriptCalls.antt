@@ -6,21 +6,19 @@ use mathlib.Core.List.{List, [], _∷_, _++_, map, append-assoc}
 use native.Mathlib.Omega.{arith}
 use lib.ListN.{length, take, drop, length-drop, drop-of-length-le}
 use lib.Seq.{drop-drop}
-use Rattle.base.specs.Lists.{keep, flat, sum}
+use Rattle.base.specs.Lists.{keep, flat}
 use Rattle.base.proofs.Until.{take-until, until-within}
 use Rattle.book.specs.Formula.{Formula}
 use Rattle.book.specs.Text.{lineEnd}
-use Rattle.run.specs.Trail.{decisions}
 use Rattle.run.specs.Run.{Run, openRun}
 use Rattle.run.specs.Calls.{Call, decision, backtrackBy, fixBy, stepAll, reference}
 use Rattle.run.specs.Ceiling.{backtracksAsked}
 use Rattle.script.specs.declared.Line.{Line}
 use Rattle.script.specs.declared.Line.the-variants.{Choose, Back, Malformed}
 use Rattle.script.specs.Script.{scriptLines, lineBytes, lineOf}
-use Rattle.script.specs.Answers.{endLine}
 use Rattle.script.specs.Desk.{answerTo, stepOf, answersTo}
 use Rattle.script.proofs.ScriptLaws.{lines-first, lines-parted}
-use Rattle.quote.specs.Quote.{lineCalls, scriptCalls, isBack, backLines}
+use Rattle.quote.specs.Quote.{lineCalls, scriptCalls, lastLine, isBack, backLines}
 
 -- the calls and the lines of the form `b k` of so many lines
 abbrev callsOf : List (List ℕ) → List Call
@@ -66,10 +64,6 @@ asked-part (suc j) [] = omega arith
 asked-part (suc j) (decision l ∷ calls) = asked-part j calls
 asked-part (suc j) (backtrackBy k ∷ calls) = omega (arith, asked-part j calls)
 asked-part (suc j) (fixBy f ∷ calls) = asked-part j calls
-
--- the last line that the program prints where it has come to a run
-abbrev pub lastLine : Run → List ℕ
-lastLine run = endLine (length (decisions (run .trail))) (run .backtracks) (sum (run .checks))
 
 module _ (formula : Formula) where
   line-steps : (run : Run) (line : Line) (calls : List Call) → stepAll formula run (lineCalls line ++ calls) ≡ stepAll formula (stepOf formula run line) calls

@@ -5,9 +5,12 @@ use mathlib.Core.Bool.{Bool, true, false, cond}
 use mathlib.Core.List.{List, [], _∷_, _++_, map}
 use lib.Dec.{ltb}
 use lib.ListN.{length}
-use Rattle.base.specs.Lists.{keep, flat}
+use Rattle.base.specs.Lists.{keep, flat, sum}
+use Rattle.book.specs.Formula.{Formula}
 use Rattle.book.specs.Numbers.{variablesOf, clausesOf, wellFormed, formulaOf}
-use Rattle.run.specs.Calls.{Call, decision, backtrackBy}
+use Rattle.run.specs.Trail.{decisions}
+use Rattle.run.specs.Run.{Run}
+use Rattle.run.specs.Calls.{Call, decision, backtrackBy, reference}
 use Rattle.run.specs.Ceiling.{worst}
 use Rattle.layout.specs.Layout.{requiredLength}
 use Rattle.script.specs.declared.Line.{Line}
@@ -25,6 +28,10 @@ lineCalls Malformed = []
 
 unfoldable pub scriptCalls : List ℕ → List Call
 scriptCalls script = flat (map (λ (line : List ℕ). lineCalls (lineOf line)) (scriptLines script))
+
+-- the last line that the program prints where its calls have led to a run: decisions in force, accepted backtracks, total checks
+abbrev pub lastLine : Run → List ℕ
+lastLine run = endLine (length (decisions (run .trail))) (run .backtracks) (sum (run .checks))
 
 -- a line of the form `b k`, as the script program reads lines, whatever k is
 unfoldable pub isBack : Line → Bool
@@ -53,11 +60,8 @@ quoteAnswer book script =
     (Of (requiredLength (variablesOf book) (clausesOf book)) (worst (formulaOf book)) (backLines script) (quotedCeiling book script)))
     (Refused 11)
 
--- What the program prints ends with a last line that shows at most so many checks.
-pub record EndsWithin (most : ℕ) (output : List ℕ) : Type 0 where
+-- What the program prints for a script ends with the last line of the reference run of its calls, and that shows at most so many checks.
+pub record EndsWithin (most : ℕ) (formula : Formula) (script output : List ℕ) : Type 0 where
   pub before : List ℕ
-  pub decisions : ℕ
-  pub backtracks : ℕ
-  pub checks : ℕ
-  pub ends : output ≡ before ++ endLine decisions backtracks checks
-  pub within : checks ≤ most
+  pub ends : output ≡ before ++ lastLine (reference formula (scriptCalls script))
+  pub within : sum (reference formula (scriptCalls script) .checks) ≤ most

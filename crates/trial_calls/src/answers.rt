@@ -1,5 +1,6 @@
 // The answers of the calls in the paper's words. Each function that is handed a call's answer and says it answers how many literals of the trail are to be listed behind.
 use chapters::Filing;
+use quote::Quote;
 use session::Answer;
 use session::Assigned;
 use session::Back;
@@ -171,6 +172,25 @@ pub(crate) fn by_chapter(answer: Filing, totals: &[u64]) -> u32 {
             totals_untouched(totals);
             answered
         }
+    }
+}
+
+// What a quote answers.
+pub(crate) fn quoted(answer: Quote) -> u32 {
+    match answer {
+        Quote::Of {
+            length,
+            worst,
+            backtracks,
+            ceiling,
+        } => {
+            say(messages::REQUIRED, length);
+            say(messages::WORST, worst);
+            say(messages::BACK_LINES, backtracks);
+            say_wide(messages::CEILING, ceiling as usize);
+            0
+        }
+        Quote::Refused(refusal) => refused(refusal),
     }
 }
 

@@ -1,6 +1,7 @@
 // The calls of a trial by their names, and what they answer, for `limits`. Each function answers how many literals of the trail are to be listed behind.
 pub mod answers;
 mod filing;
+mod quoting;
 pub mod reads;
 
 use crate::reads::read;
@@ -70,6 +71,7 @@ pub fn call(book: &[u32], session: &mut [u32], step: &[u8], called: usize, a: u3
         names::BEGIN | names::REPLAY => replay(book, session, step, called == names::REPLAY),
         names::LINE => line(book, session, parsed(step)),
         names::CHAPTERS => filing::totals(book, session, step, wide(a)),
+        names::QUOTE => quoting::quoted(book, step),
         _ => read(book, session, called, a, b),
     }
 }

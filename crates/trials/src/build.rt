@@ -1,7 +1,8 @@
-// The texts of trials: escapes decoded, pieces repeated.
+// The texts and scripts of trials: escapes decoded, pieces repeated.
 ghost use Prim.Native.Nat.{_≤_};
 ghost use lib.ListN.{length};
 use crate::messages::fitting;
+use crate::rows::find;
 use crate::rows::number;
 use crate::rows::part;
 
@@ -105,5 +106,56 @@ pub(crate) fn text(space: &mut [u8], base: &[u8], row: &[u8]) -> usize
     let pieces = put_field(space, head, row, 3, number(row, b'|', 4));
     let bases = put_field(space, pieces, base, 2, number(row, b'|', 5));
     let n = put_field(space, bases, row, 6, 1);
+    fitting(n, space.len())
+}
+
+// Puts bytes as they are from a place on; answers as `put` does.
+fn copy(text: &mut [u8], at: usize, bytes: &[u8]) -> usize {
+    let mut to = at;
+    let mut i = 0;
+    while i < bytes.len() {
+        if to >= text.len() {
+            return text.len() + 1;
+        }
+        text[to] = bytes[i];
+        to += 1;
+        i += 1;
+    }
+    to
+}
+
+// The same so many times.
+fn copy_times(text: &mut [u8], at: usize, bytes: &[u8], times: u32) -> usize {
+    let mut to = at;
+    let mut left = times;
+    while left > 0 {
+        to = copy(text, to, bytes);
+        left -= 1;
+    }
+    to
+}
+
+// Puts what part k of a script writes so many times.
+fn put_piece(text: &mut [u8], at: usize, script: &[u8], k: u32, times: u32) -> usize {
+    let mut piece = [0u8; 256];
+    let span = part(script, b'*', k);
+    let from = span.from;
+    let to = span.to;
+    let n = decode(&mut piece, &script[from..to]);
+    copy_times(text, at, &piece[0..n], times)
+}
+
+// Whether a script has parts, parted by `*`, some of them repeated.
+pub fn has_parts(script: &[u8]) -> bool {
+    find(script, 0, b'*') < script.len()
+}
+
+// The bytes of a script: part 0, part 1 as often as part 2 says, part 3 as often as part 4 says. Answers how many they are.
+pub fn script_of(space: &mut [u8], script: &[u8]) -> usize
+    ensures { λ r. ⌜ r ≤ length (now (space .entry)) ⌝ }
+{
+    let head = put_piece(space, 0, script, 0, 1);
+    let pieces = put_piece(space, head, script, 1, number(script, b'*', 2));
+    let n = put_piece(space, pieces, script, 3, number(script, b'*', 4));
     fitting(n, space.len())
 }

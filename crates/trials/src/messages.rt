@@ -78,9 +78,15 @@ pub const FILED: u32 = 35;
 
 pub const NOT_FILED: u32 = 36;
 
-pub const BLANK: u32 = 37;
+pub const WORST: u32 = 37;
 
-pub const MINUS: u32 = 38;
+pub const BACK_LINES: u32 = 38;
+
+pub const CEILING: u32 = 39;
+
+pub const BLANK: u32 = 40;
+
+pub const MINUS: u32 = 41;
 
 // Part k of the bytes, parted by `|`.
 pub fn print_part(bytes: &[u8], k: u32) {
@@ -96,7 +102,7 @@ pub fn print(word: u32) {
         b"\n|: | / |, too long|, no such name|, no such place|, lent numbers changed|, out of form|, lent numbers untouched|\
         , the rest untouched|, numbers|refused |V | C | L |well formed|open|choose | forced |:| rule |back |\
         fixed |feature | open| wanted at level | barred at level |checks |choices | backs | trail |choices fixed |need |\
-        rules |literals |true|false| |-",
+        rules |literals |true|false| W | b | ceiling | |-",
         word,
     );
 }

@@ -52,30 +52,32 @@ pub const EACH: usize = 23;
 
 pub const CHAPTERS: usize = 24;
 
-pub const FORM: usize = 25;
+pub const QUOTE: usize = 25;
 
-pub const SIZES: usize = 26;
+pub const FORM: usize = 26;
+
+pub const SIZES: usize = 27;
 
 // The parts of a session in their order, and what is behind the last.
-pub const HEADER: usize = 27;
+pub const HEADER: usize = 28;
 
-pub const TRAIL: usize = 28;
+pub const TRAIL: usize = 29;
 
-pub const LEVELS: usize = 29;
+pub const LEVELS: usize = 30;
 
-pub const VALUES: usize = 30;
+pub const VALUES: usize = 31;
 
-pub const WATCHES: usize = 31;
+pub const WATCHES: usize = 32;
 
-pub const POINTERS: usize = 32;
+pub const POINTERS: usize = 33;
 
-pub const CHECKS: usize = 33;
+pub const CHECKS: usize = 34;
 
-pub const HEADS: usize = 34;
+pub const HEADS: usize = 35;
 
-pub const LINKS: usize = 35;
+pub const LINKS: usize = 36;
 
-pub const BEHIND: usize = 36;
+pub const BEHIND: usize = 37;
 
 // The place of a word among names that are parted by blanks, from 0; how many they are where it is none of them.
 fn place_among(names: &[u8], word: &[u8]) -> usize {
@@ -99,7 +101,7 @@ pub fn name(row: &[u8], byte: u8, k: u32) -> usize {
     let to = span.to;
     place_among(
         b"text room session based base numbers write give short spare begin open choose back fix many play line lookup figures \
-        fixed sum need each chapters form sizes header trail levels values watches pointers checks heads links",
+        fixed sum need each chapters quote form sizes header trail levels values watches pointers checks heads links",
         &row[from..to],
     )
 }
