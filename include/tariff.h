@@ -136,7 +136,7 @@ uint64_t tariff_chapters(const uint32_t *book, size_t book_length, const uint32_
  * script, as `desk` reads it from its standard input. Run on this book it never costs more checks than the quoted ceiling, W x (lines `b k` + 1),
  * whatever is refused on the way; and tariff_open refuses by 10 exactly if `session` is shorter than the quoted length.
  * Accepted: 3, how many numbers there are at the places above. Writes as many of them as fit to `out`, and nothing behind them, and the ceiling to *ceiling.
- * Refuses: 11, 17 where the script has more than 1,000,000 lines `b k`. */
+ * Refuses: 11, then 17 where the script has more than 1,000,000 lines `b k`. */
 uint64_t tariff_quote(const uint32_t *book, size_t book_length, const uint8_t *script, size_t script_length,
                       uint32_t *out, size_t out_length, uint64_t *ceiling);
 

@@ -14,11 +14,6 @@ run() {
     "$1" "$tariff" "$motor/script" 2>&1
 }
 
-wrong() {
-    echo "$name: $1" >&2
-    exit 1
-}
-
 # by_comments: what is due, by the comments `c rule 5:`, `c rules 6 to 15:` and `c rules 84 and 85:` under the headings, the checks of each rule
 # and the output of `desk`.
 by_comments() {
@@ -55,12 +50,6 @@ prints_the_same() {
         written "$edit"
         prints_stored "$name.sanitized" || wrong "prints something else with: $edit"
     done
-}
-
-# says BUILT MESSAGE: this build fails with this message, and prints nothing else.
-says() {
-    local said
-    if said=$(run "target/tests/$1") || [ "$said" != "chapters: $2" ]; then wrong "not said: $2"; fi
 }
 
 # headed COUNT: an edit with which the tariff has so many headings, the last of its twelve as often as it takes.

@@ -1,4 +1,4 @@
-//! Random damage to lent numbers and to texts.
+//! Random damage to lent numbers and to texts, and random scripts.
 use crate::places::{places, BACKTRACKS, DECISIONS, FIXED, HEADER};
 use crate::random::Random;
 
@@ -103,6 +103,47 @@ pub fn text(random: &mut Random, text: &[u8]) -> Vec<u8> {
         damaged.resize(60_001, b' ');
     }
     damaged
+}
+
+/// Lines of a script, in form or nearly so.
+const LINES: [&[u8]; 22] = [
+    b"b 1",
+    b"b 1",
+    b"b 0",
+    b"b 000000001",
+    b"b 999999999",
+    b"b 1000000000",
+    b"b",
+    b"b ",
+    b"b  1",
+    b"b\t1",
+    b"b1",
+    b"B 1",
+    b"b -1",
+    b"b +1",
+    b"b 1 ",
+    b" b 1",
+    b"b 1\r",
+    b"b 1\0",
+    b"b 1:",
+    b"1",
+    b"-2",
+    b"",
+];
+
+/// Some of these lines, now and then damaged, the last with or without its end.
+pub fn script(random: &mut Random) -> Vec<u8> {
+    let lines: Vec<&[u8]> = (0..random.below(12))
+        .map(|_| LINES[random.below(LINES.len())])
+        .collect();
+    let mut script = lines.join(&b'\n');
+    if random.once_in(2) {
+        script.push(b'\n');
+    }
+    if random.once_in(3) {
+        script = text(random, &script);
+    }
+    script
 }
 
 /// The text of `clauses` clauses, each of the first `length` variables, under a header for V and C.

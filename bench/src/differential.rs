@@ -92,6 +92,7 @@ impl Compared {
             answer
         });
         self.chapters(random, book, session);
+        self.any_quote(random, book);
     }
 
     /// The sums by chapter: from one chapter fewer than there are clauses to two more, now and then up to 32 instead of 31, and 31 to 34 sums.
@@ -106,6 +107,32 @@ impl Compared {
             halve(&totals, halves);
             answer
         });
+    }
+
+    /// The quote for a script, in so many places; the ceiling comes behind them.
+    fn quote(&mut self, book: &[u32], script: &[u8], room: usize) {
+        self.both(&mut vec![7; room + 2], |engine, numbers| {
+            let mut ceiling = 7;
+            let (out, halves) = numbers.split_at_mut(room);
+            let answer = engine.quote(book, script, out, &mut ceiling);
+            halve(&[ceiling], halves);
+            answer
+        });
+    }
+
+    /// The quote for a script of lines in form or nearly so, in 0 to 5 places.
+    fn any_quote(&mut self, random: &mut Random, book: &[u32]) {
+        let script = damage::script(random);
+        self.quote(book, &script, random.below(6));
+    }
+
+    /// Quotes for scripts about the greatest number of lines `b k`.
+    fn many_lines(&mut self, book: &[u32]) {
+        for count in [999_999, 1_000_000, 1_000_001] {
+            let script = b"b 1\n".repeat(count);
+            self.quote(book, &script, 3);
+            self.quote(&[], &script, 3);
+        }
     }
 
     /// A lookup of every variable, and of the numbers before and behind them.
@@ -183,6 +210,7 @@ impl Compared {
             return;
         }
         self.both(&mut Vec::new(), |engine, _| engine.required_length(&broken));
+        self.any_quote(random, &broken);
         self.both(&mut session.to_vec(), |engine, session| engine.open(&broken, session));
         self.random_calls(random, &broken, session);
     }
@@ -282,5 +310,6 @@ pub fn compare(workloads: &[Rc<Workload>], texts: &[Rc<Vec<u8>>]) -> Compared {
         let workload = Workload::new("small", &mut random, book, 12);
         compared.workload(&mut random, &workload, 2);
     }
+    compared.many_lines(&workloads[0].book);
     compared
 }

@@ -15,4 +15,5 @@ pub trait Engine {
     fn checks(&self, book: &[u32], session: &[u32], out: &mut [u32]) -> Answer;
     fn total(&self, book: &[u32], session: &[u32], sum: &mut u64) -> Answer;
     fn chapters(&self, book: &[u32], session: &[u32], chapters: &[u32], totals: &mut [u64]) -> Answer;
+    fn quote(&self, book: &[u32], script: &[u8], out: &mut [u32], ceiling: &mut u64) -> Answer;
 }

@@ -144,4 +144,18 @@ impl Engine for Proved {
             )
         })
     }
+
+    fn quote(&self, book: &[u32], script: &[u8], out: &mut [u32], ceiling: &mut u64) -> Answer {
+        Answer::from_code(unsafe {
+            tariff_quote(
+                book.as_ptr(),
+                book.len(),
+                script.as_ptr(),
+                script.len(),
+                out.as_mut_ptr(),
+                out.len(),
+                ceiling,
+            )
+        })
+    }
 }

@@ -43,14 +43,6 @@ static void file_rules(void) {
     }
 }
 
-static void expect_accepted(uint64_t answer) {
-    if (tariff_kind(answer) != TARIFF_ACCEPTED) fail("the session is refused");
-}
-
-static void say_count(uint64_t count, const char *word) {
-    printf("%llu %s%s", (unsigned long long)count, word, count == 1 ? "" : "s");
-}
-
 /* The totals are written only where the answer is true; false is accepted, too. */
 static void say_chapters(void) {
     uint64_t totals[TARIFF_CHAPTERS], total;

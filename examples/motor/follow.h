@@ -22,6 +22,22 @@ static void fail(const char *what) {
     exit(1);
 }
 
+/* Of calls that tell of a session. */
+static inline void expect_accepted(uint64_t answer) {
+    if (tariff_kind(answer) != TARIFF_ACCEPTED) fail("the session is refused");
+}
+
+/* With commas between thousands. */
+static inline void say_number(uint64_t number) {
+    if (number >= 1000) say_number(number / 1000);
+    printf(number >= 1000 ? ",%03u" : "%u", (unsigned)(number % 1000));
+}
+
+static inline void say_count(uint64_t count, const char *word) {
+    say_number(count);
+    printf(" %s%s", word, count == 1 ? "" : "s");
+}
+
 /* A byte 0, which only a comment of an accepted tariff can hold, would end the text; it is replaced. */
 static void read_tariff(const char *path) {
     FILE *file = fopen(path, "rb");

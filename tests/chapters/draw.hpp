@@ -7,6 +7,7 @@
 #include <vector>
 
 #include "../counts/numbers.hpp"
+#include "../support/book_damage.hpp"
 #include "lending.hpp"
 
 class Draw {
@@ -93,19 +94,11 @@ private:
         for (uint64_t& total : lent.totals.memory) total = kind == 0 ? ~uint64_t{0} : kind == 1 ? any() : random.next();
     }
 
+    // A book at fault comes before the session, damaged or not.
     void damage() {
         int kind = random.below(100);
         if (kind < 15) damage_session();
-        if (kind >= 10 && kind < 25) damage_book();
-    }
-
-    // Fewer numbers than needed.
-    void cut(Loan<uint32_t>& part, size_t need) { part.length = random.pick(std::vector<size_t>{0, need - 1, below(need)}); }
-
-    // Any one of the numbers needed is another, and what the examination says of it is not known.
-    void change(Loan<uint32_t>& part, size_t need) {
-        part.memory[below(need)] = random.chance(50) ? any() : static_cast<uint32_t>(random.below(4));
-        refusal = std::nullopt;
+        if (kind >= 10 && kind < 25) refusal = damage_book(random, lent.book, book_need);
     }
 
     // Cut; or with more decisions fixed than are in force, or more literals on the trail than variables; or changed.
@@ -113,22 +106,10 @@ private:
         Numbers& session = lent.session.memory;
         int kind = random.below(6);
         refusal = 12;
-        if (kind < 3) cut(lent.session, session_need);
+        if (kind < 3) cut(random, lent.session, session_need);
         if (kind == 3) session[FIXED] = session[DECISIONS] + 1;
         if (kind == 4) session[TRAIL_LENGTH] = static_cast<uint32_t>(lent.variables()) + 1;
-        if (kind == 5) change(lent.session, session_need);
-    }
-
-    // Cut; or with V or C out of range, or another L than the literals are; or changed. It comes before the session, damaged or not.
-    void damage_book() {
-        Numbers& book = lent.book.memory;
-        int kind = random.below(7);
-        refusal = 11;
-        if (kind < 3) cut(lent.book, book_need);
-        if (kind == 3) book[0] = random.chance(50) ? 0 : TARIFF_FEATURES + 1;
-        if (kind == 4) book[1] = random.chance(50) ? TARIFF_RULES + 1 : 0xffffffffu;
-        if (kind == 5) book[2]++;
-        if (kind == 6) change(lent.book, book_need);
+        if (kind == 5) refusal = change(random, lent.session, session_need);
     }
 
     Random& random;

@@ -60,11 +60,6 @@ inline Due due_of(const Lending& lent, const Ways& ways = {}) {
     return due;
 }
 
-template <class Number>
-void compare_memory(const std::vector<Number>& memory, const std::vector<Number>& expected, const std::string& name) {
-    for (size_t i = 0; i < expected.size(); i++) compare_number(memory[i], expected[i], name, i);
-}
-
 // The first 32 totals, which are written, are together what `tariff_total` writes of what was lent before.
 inline void compare_sum(const Sums& totals, const Lending& before, const Ways& ways) {
     uint64_t sum = 0;

@@ -1,4 +1,4 @@
-// What a call on chapters is lent: each part is the first of a memory that may hold more, which the call must not look at or write.
+// What a call on chapters is lent.
 #pragma once
 #include <cstddef>
 #include <cstdint>
@@ -6,17 +6,12 @@
 #include <vector>
 
 #include "../support/library.hpp"
+#include "../support/loan.hpp"
 
 using Sums = std::vector<uint64_t>;
 
 constexpr size_t CHAPTERS = 32;
 static_assert(TARIFF_CHAPTERS == CHAPTERS);
-
-template <class Number>
-struct Loan {
-    std::vector<Number> memory;
-    size_t length = 0;
-};
 
 struct Lending {
     Loan<uint32_t> book, session, chapters;

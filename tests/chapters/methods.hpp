@@ -9,6 +9,7 @@
 #include <utility>
 #include <vector>
 
+#include "../support/call_then.hpp"
 #include "due.hpp"
 
 namespace methods {
@@ -44,11 +45,7 @@ Method false_where(Condition condition) {
 // The library's call; then its answer and what it left are changed, by what was lent before.
 template <class Change>
 Method then(Change change) {
-    return [change](Lending& lent) {
-        const Lending before = lent;
-        uint64_t answer = by_library(lent);
-        return change(answer, lent, before);
-    };
+    return call_then(by_library, change);
 }
 
 // The library's call with another answer.

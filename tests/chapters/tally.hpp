@@ -3,52 +3,35 @@
 #include <algorithm>
 #include <cstddef>
 #include <cstdint>
-#include <functional>
 #include <iostream>
 #include <set>
-#include <stdexcept>
 #include <string>
 #include <vector>
 
+#include "../support/kinds.hpp"
 #include "due.hpp"
 
 class Tally {
 public:
     void add(const Lending& lent, const Due& due) {
         calls++;
-        count(filed, lent, due);
-        count(others, lent, due);
+        filed.count(lent, due);
+        others.count(lent, due);
         for (size_t i = 0; due.answer == FILED && i < CHAPTERS; i++) greatest = std::max(greatest, due.totals[i]);
     }
 
     void print(double seconds) const {
         std::cout << "chapters: " << calls << " calls compared, ";
-        print(filed);
+        filed.print(ENOUGH);
         std::cout << "; the greatest total is " << greatest << "\nchapters: ";
-        print(others);
+        others.print(ENOUGH);
         std::cout << "; " << static_cast<int>(seconds + 0.5) << " s\n";
     }
 
 private:
     static constexpr long ENOUGH = 200;
 
-    struct Kind {
-        std::string name;
-        std::function<bool(const Lending&, const Due&)> is_met;
-        long calls = 0;
-    };
-
-    static void count(std::vector<Kind>& kinds, const Lending& lent, const Due& due) {
-        for (Kind& kind : kinds)
-            if (kind.is_met(lent, due)) kind.calls++;
-    }
-
-    static void print(const std::vector<Kind>& kinds) {
-        for (const Kind& kind : kinds) {
-            if (kind.calls < ENOUGH) throw std::runtime_error("hardly any calls: " + kind.name);
-            std::cout << (&kind == &kinds.front() ? "" : ", ") << kind.name << ": " << kind.calls;
-        }
-    }
+    using Kind = ::Kind<Lending, Due>;
 
     // Calls that are answered by true.
     template <class Condition>
@@ -142,5 +125,5 @@ private:
 
     long calls = 0;
     uint64_t greatest = 0;
-    std::vector<Kind> filed = filed_kinds(), others = other_kinds();
+    Kinds<Lending, Due> filed{filed_kinds()}, others{other_kinds()};
 };

@@ -8,6 +8,7 @@
 #include "../support/answer.hpp"
 #include "../support/command.hpp"
 #include "../support/library.hpp"
+#include "../support/loan.hpp"
 #include "numbers.hpp"
 #include "run.hpp"
 
@@ -44,11 +45,6 @@ inline void compare_lines(const std::vector<std::string>& expected, const std::s
     expect(told.size() == expected.size(), std::to_string(told.size()) + " answers, must be " + std::to_string(expected.size()));
 }
 
-inline void compare_number(uint64_t seen, uint64_t expected, const std::string& name, size_t place) {
-    if (seen != expected)
-        throw Disagreement(name + " " + std::to_string(place) + " is " + std::to_string(seen) + ", must be " + std::to_string(expected));
-}
-
 // Every number that was lent; what lies behind the parts is as it was before. How many the parts are.
 inline size_t compare_numbers(const Numbers& numbers, const std::vector<Part>& parts, const Numbers& before) {
     size_t at = 0;
@@ -69,8 +65,6 @@ inline uint64_t c_answer(const Answer& answer) {
                                                        : answer.implied.size();
     return kind << 32 | number;
 }
-
-inline uint64_t c_refusal(uint64_t number) { return uint64_t{TARIFF_REFUSED} << 32 | number; }
 
 // What the library has to answer to a call.
 inline uint64_t answer_call(Run& run, const Call& call) {

@@ -70,13 +70,6 @@ Assignment led_to(Run& run, const std::vector<int>& decisions) {
     return assignment;
 }
 
-// Long clauses over few variables: most decisions make some of their literals false, so pointers go round.
-Formula wide(Random& random) {
-    int variables = random.between(6, random.pick(std::vector<int>{12, 40, 120})), longest = std::min(variables, 40);
-    std::vector<int> lengths{3, random.between(4, longest), random.between(4, longest), longest};
-    return shapes::by_lengths(random, variables, random.between(1, 60), lengths, random.between(50, 100));
-}
-
 // Large formulas get fewer lines.
 int line_count(Random& random, const Formula& formula) {
     int lines = random.between(4, 40 + 120000 / (1000 + literal_count(formula)));
@@ -114,7 +107,7 @@ struct Generated {
 
 // Every third case is wide, and its decisions mostly make literals false.
 Generated generate(int number, uint64_t seed) {
-    static const shapes::Shape wide_shape{"wide", wide, 0};
+    static const shapes::Shape wide_shape{"wide", shapes::wide, 0};
     bool is_wide = number % 3 == 2;
     const shapes::Shape& shape = is_wide ? wide_shape : shapes::of_case(number / 3 * 2 + number % 3);
     Random random(seed);

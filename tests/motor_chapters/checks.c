@@ -9,7 +9,7 @@ int main(int count, char **words) {
     open_session();
     follow(words[2]);
     uint64_t answer = tariff_checks(book, TARIFF_BOOK, session, needed, checks, TARIFF_RULES);
-    if (tariff_kind(answer) != TARIFF_ACCEPTED) fail("the session is refused");
+    expect_accepted(answer);
     for (uint32_t rule = 1; rule <= tariff_number(answer); rule++)
         printf("%u %u\n", rule, checks[rule - 1]);
     return 0;

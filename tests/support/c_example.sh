@@ -10,6 +10,17 @@ example() {
     noticed=0
 }
 
+wrong() {
+    echo "$name: $1" >&2
+    exit 1
+}
+
+# says BUILT MESSAGE: this build fails with this message, in the name of its source, and prints nothing else.
+says() {
+    local said
+    if said=$(run "target/tests/$1") || [ "$said" != "$(basename "$source" .c): $2" ]; then wrong "not said: $2"; fi
+}
+
 # prints_stored NAME: the built example prints what is stored.
 prints_stored() {
     run "target/tests/$1" | diff "$stored" -
@@ -36,8 +47,7 @@ edited() {
     copy=$folder/$(basename "$1")
     sed -E "$2" "$1" >"$copy"
     cmp -s "$1" "$copy" || return 0
-    echo "$name: an edit changes nothing: $2" >&2
-    exit 1
+    wrong "an edit changes nothing: $2"
 }
 
 # notices_in_stored EDIT...: with each of these sed edits the stored output no longer agrees.
@@ -46,8 +56,7 @@ notices_in_stored() {
     for edit in "$@"; do
         edited "$stored" "$edit"
         agrees "$folder/$(basename "$stored")" >/dev/null || continue
-        echo "$name: not noticed in the stored output: $edit" >&2
-        exit 1
+        wrong "not noticed in the stored output: $edit"
     done
 }
 
@@ -56,8 +65,7 @@ notices() {
     edited include/tariff.h "$1"
     compile "$name.wrong" "$source" "-I$folder" "${library[@]}"
     if prints_stored "$name.wrong" >/dev/null; then
-        echo "$name: not noticed in the header: $1" >&2
-        exit 1
+        wrong "not noticed in the header: $1"
     fi
     noticed=$((noticed + 1))
 }

@@ -65,10 +65,14 @@ public:
     }
 
     Seen look() const {
-        Seen seen{session.numbers, copied(tariff_checks, book.numbers[1]), 0, copied(tariff_figures, TARIFF_FIGURES), fixed()};
-        uint64_t answer = tariff_total(book.numbers.data(), TARIFF_BOOK, session.numbers.data(), session.numbers.size(), &seen.total);
-        accepted(answer, "the total");
-        return seen;
+        return {session.numbers, copied(tariff_checks, book.numbers[1]), total(), copied(tariff_figures, TARIFF_FIGURES), fixed()};
+    }
+
+    // The sum of all checks.
+    uint64_t total() const {
+        uint64_t sum = 0;
+        accepted(tariff_total(book.numbers.data(), TARIFF_BOOK, session.numbers.data(), session.numbers.size(), &sum), "the total");
+        return sum;
     }
 
     // The rule that the session's figures name; 0 out of contradiction.

@@ -198,6 +198,13 @@ inline Formula full(Random& random) {
     return formula;
 }
 
+// Long clauses over few variables: most decisions make some of their literals false, so pointers go round.
+inline Formula wide(Random& random) {
+    int variables = random.between(6, random.pick(std::vector<int>{12, 40, 120})), longest = std::min(variables, 40);
+    std::vector<int> lengths{3, random.between(4, longest), random.between(4, longest), longest};
+    return by_lengths(random, variables, random.between(1, 60), lengths, random.between(50, 100));
+}
+
 struct Shape {
     std::string name;
     Formula (*make)(Random&);

@@ -27,7 +27,7 @@ fi
     fault == "counts no checks" && $1 == "end" { $7 = 0 }
     fault == "counts a check too few" && $1 == "end" { $7-- }
     fault == "counts a check too many" && $1 == "end" { $7++ }
-    fault == "checks above the ceiling" && $1 == "end" { $7 = 4000000000 }
+    fault == "checks above the ceiling" && $1 == "end" { $7 = "4000000000" }
     fault == "other refusals" && $1 == "refused" { $2 = $2 % 9 + 1 }
     fault == "refuses a feature twice by 7" && twice && $1 != "refused" { print "refused 7"; exit }
     fault == "a blank at the end of lines" { $0 = $0 " " }

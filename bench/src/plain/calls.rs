@@ -9,6 +9,9 @@ use crate::places::{BACKTRACKS, CONFLICT, DECISIONS, FIXED, LENGTH};
 /// The chapters that clauses are filed in.
 const CHAPTERS: usize = 32;
 
+/// The most lines `b k` of a script that is quoted for.
+const MAX_BACK_LINES: usize = 1_000_000;
+
 type Outcome = Result<Answer, u32>;
 
 /// The formula and the parts of a session that passes, or the refusal number.
@@ -166,4 +169,24 @@ pub fn chapters(book: &[u32], session: &[u32], chapters: &[u32], totals: &mut [u
         totals[chapter as usize] += u64::from(count);
     }
     Ok(Answer::Accepted(1))
+}
+
+/// Whether a script line is `b`, one blank and one to nine digits.
+fn is_back(line: &[u8]) -> bool {
+    line.strip_prefix(b"b ")
+        .is_some_and(|k| (1..=9).contains(&k.len()) && k.iter().all(u8::is_ascii_digit))
+}
+
+/// The session's length, the most checks between two backtracks and the lines `b k` of a script; the ceiling of its checks goes to `ceiling`.
+pub fn quote(book: &[u32], script: &[u8], out: &mut [u32], ceiling: &mut u64) -> Outcome {
+    let formula = Formula::from_numbers(book).ok_or(11u32)?;
+    let backs = script.split(|&byte| byte == b'\n').filter(|line| is_back(line)).count();
+    if backs > MAX_BACK_LINES {
+        return Err(17);
+    }
+    let long = formula.iter().map(<[u32]>::len).filter(|&length| length >= 2);
+    let worst: usize = long.map(|length| 2 * length - 3).sum();
+    let length = layout::required_length(formula.variables, formula.clauses());
+    *ceiling = worst as u64 * (backs as u64 + 1);
+    Ok(copied(&[length, worst, backs].map(|number| number as u32), out))
 }

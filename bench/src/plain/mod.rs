@@ -68,4 +68,8 @@ impl Engine for Plain {
     fn chapters(&self, book: &[u32], session: &[u32], chapters: &[u32], totals: &mut [u64]) -> Answer {
         answer(calls::chapters(book, session, chapters, totals))
     }
+
+    fn quote(&self, book: &[u32], script: &[u8], out: &mut [u32], ceiling: &mut u64) -> Answer {
+        answer(calls::quote(book, script, out, ceiling))
+    }
 }

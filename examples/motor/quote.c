@@ -1,0 +1,67 @@
+/* Says what the session of a script on a tariff needs and costs at most, before it is opened; then makes the session and says what it cost. */
+#include "follow.h"
+
+static uint32_t quoted[TARIFF_QUOTED];
+static uint64_t ceiling;
+
+/* All bytes of the script; `follow` reads them once more, line by line. */
+static uint8_t *read_script(const char *path, size_t *length) {
+    FILE *file = fopen(path, "rb");
+    if (!file) fail("no such script");
+    uint8_t *script = NULL;
+    size_t room = 0;
+    *length = 0;
+    do {
+        room = 2 * room + 4096;
+        script = (uint8_t *)realloc(script, room);
+        if (!script) fail("no memory for the script");
+        *length += fread(script + *length, 1, room - *length, file);
+    } while (*length == room);
+    fclose(file);
+    return script;
+}
+
+/* The tariff was accepted, so that its book is not at fault: only a script of too many lines is refused. */
+static void quote(const char *path) {
+    size_t length;
+    uint8_t *script = read_script(path, &length);
+    uint64_t answer = tariff_quote(book, TARIFF_BOOK, script, length, quoted, TARIFF_QUOTED, &ceiling);
+    if (tariff_kind(answer) != TARIFF_ACCEPTED) fail("the script has more than 1,000,000 lines of take-backs");
+    free(script);
+}
+
+static void say_quote(void) {
+    printf("before the session\n  it needs ");
+    say_count(quoted[TARIFF_QUOTED_LENGTH], "number");
+    printf("\n  its rules cost at most ");
+    say_count(quoted[TARIFF_QUOTED_WORST], "check");
+    printf(" until the first take-back, and as many again after each one\n  the script has ");
+    say_count(quoted[TARIFF_QUOTED_TAKE_BACKS], "line");
+    printf(" of take-backs, so it costs at most ");
+    say_count(ceiling, "check");
+    printf("\n");
+}
+
+static void say_cost(void) {
+    uint32_t figures[TARIFF_FIGURES];
+    uint64_t total;
+    expect_accepted(tariff_figures(book, TARIFF_BOOK, session, needed, figures, TARIFF_FIGURES));
+    expect_accepted(tariff_total(book, TARIFF_BOOK, session, needed, &total));
+    printf("after the session\n  ");
+    say_count(figures[TARIFF_TAKE_BACKS], "take-back");
+    printf(" %s accepted\n  it cost ", figures[TARIFF_TAKE_BACKS] == 1 ? "was" : "were");
+    say_count(total, "check");
+    printf("\n");
+}
+
+int main(int count, char **words) {
+    program = "quote";
+    if (count != 3) fail("usage: quote TARIFF SCRIPT");
+    read_tariff(words[1]);
+    quote(words[2]);
+    say_quote();
+    open_session();
+    follow(words[2]);
+    say_cost();
+    return 0;
+}
