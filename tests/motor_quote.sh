@@ -76,8 +76,8 @@ asks_often 1000000
 [[ $(run "target/tests/$name") = *'has 1,000,000 lines of take-backs, so it costs at most 260,000,260 checks'* ]] || wrong 'no quote for 1,000,000 lines'
 script=$motor/script
 notices 's/(TARIFF_QUOTED_LENGTH) 0/\1 1/; s/(TARIFF_QUOTED_WORST) 1/\1 0/'
-notices 's/(TARIFF_QUOTED_WORST) 1/\1 2/; s/(TARIFF_QUOTED_TAKE_BACKS) 2/\1 1/'
-notices 's/(TARIFF_QUOTED_LENGTH) 0/\1 2/; s/(TARIFF_QUOTED_TAKE_BACKS) 2/\1 0/'
+notices 's/(TARIFF_QUOTED_WORST) 1/\1 2/; s/(TARIFF_QUOTED_BACK_LINES) 2/\1 1/'
+notices 's/(TARIFF_QUOTED_LENGTH) 0/\1 2/; s/(TARIFF_QUOTED_BACK_LINES) 2/\1 0/'
 notices 's/(TARIFF_TAKE_BACKS) 1/\1 0/; s/(TARIFF_CHOICES) 0/\1 1/'
 notices 's/(TARIFF_ACCEPTED) 0/\1 2/; s/(TARIFF_REFUSED) 2/\1 0/'
 notices '/ tariff_wanted/s/2 \* feature/& + 1/'

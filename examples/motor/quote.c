@@ -36,7 +36,7 @@ static void say_quote(void) {
     printf("\n  its rules cost at most ");
     say_count(quoted[TARIFF_QUOTED_WORST], "check");
     printf(" until the first take-back, and as many again after each one\n  the script has ");
-    say_count(quoted[TARIFF_QUOTED_TAKE_BACKS], "line");
+    say_count(quoted[TARIFF_QUOTED_BACK_LINES], "line");
     printf(" of take-backs, so it costs at most ");
     say_count(ceiling, "check");
     printf("\n");

@@ -10,7 +10,7 @@
 
 // The places of a quote's numbers.
 constexpr size_t QUOTED = 3;
-static_assert(TARIFF_QUOTED == QUOTED && TARIFF_QUOTED_LENGTH == 0 && TARIFF_QUOTED_WORST == 1 && TARIFF_QUOTED_TAKE_BACKS == 2);
+static_assert(TARIFF_QUOTED == QUOTED && TARIFF_QUOTED_LENGTH == 0 && TARIFF_QUOTED_WORST == 1 && TARIFF_QUOTED_BACK_LINES == 2);
 
 struct Lending {
     Loan<uint32_t> book;

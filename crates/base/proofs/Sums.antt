@@ -32,17 +32,16 @@ sum-both (suc n) f g = omega (arith, sum-both n (λ (i : ℕ). f (suc i)) (λ (i
 
 -- what a loop knows at index i: s is the sum of the first i numbers
 pub record Summed (numbers : List ℕ) (s i : ℕ) : Type 0 where
-  pub within : i ≤ length numbers
   pub rest : s + sum (drop i numbers) ≡ sum numbers
 
 pub summed-none : (numbers : List ℕ) → Summed numbers 0 0
-summed-none numbers = record { within = omega arith; rest = omega arith }
+summed-none numbers = record { rest = omega arith }
 
 pub summed-more : (numbers : List ℕ) (s i n : ℕ) → Summed numbers s i → i < length numbers → n ≡ getD numbers i 0 → Summed numbers (s + n) (i + 1)
 unfolding sum
 summed-more numbers s i n r h e =
     let here : sum (drop i numbers) ≡ getD numbers i 0 + sum (drop (i + 1) numbers) = rw (add-one i) (ap sum (drop-cons numbers i 0 h)) in
-    record { within = omega arith; rest = omega (arith, r .rest) }
+    record { rest = omega (arith, r .rest) }
 
 pub summed-all : (numbers : List ℕ) (s i : ℕ) → Summed numbers s i → length numbers ≤ i → s ≡ sum numbers
 unfolding sum

@@ -91,16 +91,16 @@ filingCode (filing.Filed true) = 1
 filingCode (filing.Filed false) = 0
 filingCode (filing.Refused number) = refusalCode number
 
--- a quote is three numbers, the session's length, W and the lines of the form `b k`, copied as the figures are; and the quoted ceiling, which goes to a
--- place of its own
+-- a quote is three numbers, the session's length, W and how many lines of the form `b k` the script has, copied as the figures are; and the quoted ceiling,
+-- which goes to a place of its own
 abbrev pub quoteCode : Quote → ℕ
-quoteCode (quote.Of length worst backtracks ceiling) = 3
+quoteCode (quote.Of length worst lines ceiling) = 3
 quoteCode (quote.Refused number) = refusalCode number
 
 abbrev pub quoteAfter : Quote → List ℕ → List ℕ
-quoteAfter (quote.Of length worst backtracks ceiling) buffer = copied (length ∷ worst ∷ backtracks ∷ []) buffer
+quoteAfter (quote.Of length worst lines ceiling) buffer = copied (length ∷ worst ∷ lines ∷ []) buffer
 quoteAfter (quote.Refused number) buffer = buffer
 
 abbrev pub ceilingAfter : Quote → ℕ → ℕ
-ceilingAfter (quote.Of length worst backtracks ceiling) before = ceiling
+ceilingAfter (quote.Of length worst lines ceiling) before = ceiling
 ceilingAfter (quote.Refused number) before = before

@@ -229,7 +229,7 @@ pub extern "C" fn tariff_chapters(
     filing_code(chapters::chapter_totals(book, session, chapters, totals))
 }
 
-// Copies the session's length, W and the lines of the form `b k` to `out`: what fits; the quoted ceiling, into `ceiling`.
+// Copies the session's length, W and how many lines of the form `b k` the script has to `out`: what fits; the quoted ceiling, into `ceiling`.
 #[no_mangle]
 pub extern "C" fn tariff_quote(
     book: &[u32],
@@ -245,12 +245,12 @@ pub extern "C" fn tariff_quote(
         quote::Quote::Of {
             length,
             worst,
-            backtracks,
+            back_lines,
             ceiling: most,
         } => {
             put(length, 0, out);
             put(worst, 1, out);
-            put(backtracks, 2, out);
+            put(back_lines, 2, out);
             *ceiling = most;
             3
         }

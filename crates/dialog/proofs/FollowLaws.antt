@@ -13,7 +13,6 @@ use Rattle.base.proofs.Copies.{length-copy, take-copy}
 use Rattle.base.proofs.Lists.{take-both}
 use Rattle.book.specs.Numbers.{formulaOf}
 use Rattle.run.specs.Run.{Run}
-use Rattle.session.specs.declared.Answer.the-variants as answer
 use Rattle.script.specs.declared.Line.{Line}
 use Rattle.script.specs.Script.{lineBytes, lineOf}
 use Rattle.script.specs.Buffer.{fitting}

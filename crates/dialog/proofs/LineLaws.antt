@@ -7,13 +7,11 @@ use native.Mathlib.Omega.{arith}
 use borrow.Author.Tests.{eqb-true}
 use lib.Dec.{eqb}
 use lib.ListN.{length}
-use Rattle.base.specs.Lists.{sum}
 use Rattle.book.specs.Numbers.{formulaOf}
 use Rattle.book.specs.Reading.{readText}
 use Rattle.book.specs.Answer.{readAnswer, numbersAfter}
 use Rattle.book.specs.declared.Reading.{Reading}
 use Rattle.book.specs.declared.Reading.the-variants as reading
-use Rattle.run.specs.Trail.{decisions}
 use Rattle.run.specs.Run.{Run, openRun, decide, backtrack, inConflict, trailBehind}
 use Rattle.run.specs.Calls.{decision, backtrackBy, decideRefusal, backtrackRefusal}
 use Rattle.run.proofs.Theorems.{decide-longer}
@@ -24,9 +22,9 @@ use Rattle.script.specs.declared.Line.{Line}
 use Rattle.script.specs.declared.Line.the-variants.{Choose, Back, Malformed}
 use Rattle.script.specs.declared.Cause.{Cause}
 use Rattle.script.specs.declared.Cause.the-variants.{Opening, Decision}
-use Rattle.script.specs.Answers.{impliedLine, clauseLine, backLine, refusedLine, endLine}
+use Rattle.script.specs.Answers.{impliedLine, clauseLine, backLine, refusedLine}
 use Rattle.script.specs.Buffer.{fitting}
-use Rattle.script.specs.Desk.{propagatedLine, unlessRefused, answerTo, stepOf}
+use Rattle.script.specs.Desk.{propagatedLine, unlessRefused, answerTo, stepOf, endLineOf}
 use Rattle.dialog.specs.Answering.{propagatedBytes, backBytes, endBytes, lineAnswer, lineNumbers, lastLine}
 use Rattle.dialog.specs.Starting.{openBytes, opening, startingBy, starting}
 use Rattle.dialog.specs.Program.{HoldsRun}
@@ -97,6 +95,6 @@ module _ (book session : List ℕ) (run : Run) (buffer : List ℕ) (h : HoldsRun
   line-holds Malformed = h
 
   -- The last line shows the run's figures.
-  pub last-answers : lastLine book session ≡ endLine (length (decisions (run .trail))) (run .backtracks) (sum (run .checks))
+  pub last-answers : lastLine book session ≡ endLineOf run
   unfolding lastLine endBytes
   last-answers = rw (run-total book session run buffer h, run-figures book session run buffer h)

@@ -1,5 +1,4 @@
 -- The laws of `layout` that proofs cite.
-pub mod CeilingLaws
 pub mod ChainLaws
 pub mod EncodeLaws
 pub mod FitsLaws

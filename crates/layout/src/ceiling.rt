@@ -1,4 +1,4 @@
-// What the clauses of a book cost at most in one period, from the book numbers.
+// A ceiling of what the clauses of a book cost in one period, from the book numbers.
 ghost use mathlib.Core.Path.{_≡_};
 ghost use mathlib.Core.Bool.{true};
 ghost use Prim.Native.Nat.{_<_};
@@ -7,7 +7,7 @@ ghost use Rattle.run.specs.Ceiling.{clauseWorst};
 ghost use Rattle.run.specs.Ceiling as ceilings;
 use crate::values::clause_start;
 
-// The most checks of clause c, from 0: 2 × n − 3 of n ≥ 2 literals.
+// The ceiling of clause c, from 0: 2 × n − 3 of n ≥ 2 literals, else 0.
 fn clause_worst(book: &[u32], c: usize) -> usize
     requires { ⌜ wellFormed (now book) ≡ true ⌝ }
     requires { ⌜ c < clausesOf (now book) ⌝ }

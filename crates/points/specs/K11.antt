@@ -1,10 +1,11 @@
 -- Points of request K11, evaluated: W, the lines of the form `b k` of a script, and what is quoted, beside what the script costs.
-use Prim.Native.Nat.{ℕ}
+use Prim.Native.Nat.{ℕ, _+_}
 use mathlib.Core.Path.{_≡_, refl}
+use mathlib.Core.Bool.{true}
 use mathlib.Core.List.{List, [], _∷_, _++_}
 use lib.ListN.{set, take, replicate}
-use Rattle.base.specs.Lists.{all, keep, flat, member, distinct, sum, without}
-use Rattle.book.specs.Formula.{Formula, literalWithin, soundClause, sound}
+use Rattle.base.specs.Lists.{all, keep, flat, member, distinct, table, sum, without}
+use Rattle.book.specs.Formula.{Formula, positive, literalWithin, soundClause, sound}
 use Rattle.book.specs.Text.{lineEnd, decimal, isDigit, unsigned}
 use Rattle.book.specs.Reading.{onto}
 use Rattle.book.specs.Numbers.{starts, numbersOf, clausesFrom, rising, wellFormed}
@@ -35,9 +36,13 @@ worstOf n = clauseWorst (replicate n 2)
 abbrev mixed : Formula
 mixed = record { variables = 3; clauses = (2 ∷ 4 ∷ 6 ∷ []) ∷ [] ∷ (4 ∷ []) ∷ (3 ∷ 7 ∷ []) ∷ [] }
 
+-- the positive literal of variable i + 1
+abbrev positiveOf : ℕ → ℕ
+positiveOf i = positive (i + 1)
+
 -- 6,000 literals in 24 clauses, the fewest that hold so many
 abbrev full : Formula
-full = record { variables = 255; clauses = replicate 23 (replicate 255 2) ++ (replicate 135 2 ∷ []) }
+full = record { variables = 255; clauses = replicate 23 (table 255 positiveOf) ++ (table 135 positiveOf ∷ []) }
 
 pub record Points : Type 0 where
   -- The listing: 3 + 1 + 3 checks at most between two take-backs, two lines `b k`, though `b 3` is refused; the script then costs 4.
@@ -59,6 +64,7 @@ pub record Points : Type 0 where
   pub longest : worstOf 255 ≡ 507
   pub together : worst mixed ≡ 4
   pub greatest : worst full ≡ 11928
+  pub greatest-sound : sound full ≡ true
   pub mixed-quoted : quoteAnswer (numbersOf mixed) (bytes "b 1\n") ≡ Of 44 4 1 8
   pub no-clauses : quoteAnswer (numbersOf (noClauses 4)) (bytes "b 1\n") ≡ Of 25 0 1 0
   -- Lines that count, and lines that do not.
@@ -84,7 +90,7 @@ pub record Points : Type 0 where
   pub behind : quoteAnswer (book ++ (9 ∷ 9 ∷ [])) script ≡ Of 43 7 2 21
 
 pub points : Points
-unfolding clauseWorst worst backtracksAsked openRefusal bytes scriptLines numbered backOf lineOf lineCalls scriptCalls isBack backLines quoteAnswer lineEnd decimal isDigit unsigned onto all keep flat member distinct sum without soundClause sound literalWithin starts numbersOf clausesFrom rising wellFormed opposite place literalAt isTrue decisions lowered cut watched next oneMore scanFrom scan pushFront takeOut addChecks otherWatch moved scannedAction action onTrail withWatches counted performAction visit readList propagateFrom firstCell watchAll fresh assignUnit assignUnits openRun decide backtrack decideRefusal backtrackRefusal refusal performCall step stepAll reference
+unfolding clauseWorst worst backtracksAsked openRefusal bytes scriptLines numbered backOf lineOf lineCalls scriptCalls isBack backLines quoteAnswer lineEnd decimal isDigit unsigned onto all keep flat member distinct table sum without soundClause sound literalWithin starts numbersOf clausesFrom rising wellFormed opposite place literalAt isTrue decisions lowered cut watched next oneMore scanFrom scan pushFront takeOut addChecks otherWatch moved scannedAction action onTrail withWatches counted performAction visit readList propagateFrom firstCell watchAll fresh assignUnit assignUnits openRun decide backtrack decideRefusal backtrackRefusal refusal performCall step stepAll reference
 points =
     record {
       quoted = refl;
@@ -102,6 +108,7 @@ points =
       longest = refl;
       together = refl;
       greatest = refl;
+      greatest-sound = refl;
       mixed-quoted = refl;
       no-clauses = refl;
       counts-zero = refl;

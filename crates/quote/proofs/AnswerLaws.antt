@@ -27,18 +27,18 @@ product-small book w b well is few =
     let lines : b + 1 ≤ maxBackLines + 1 = omega arith in
     mul-le-mul small lines
 
+-- a length is told of book numbers of the right form
+pub told-length : (book : List ℕ) (n : ℕ) → count.Of n ≡ requiredAnswer book → (wellFormed book ≡ true) × (requiredLength (variablesOf book) (clausesOf book) ≡ n)
+unfolding requiredAnswer
+told-length book n e = let told = outcome-accepted (cond (wellFormed book) 0 11) (requiredLength (variablesOf book) (clausesOf book)) n (count-of n _ e) in (go (wellFormed book) (told .0), told .1)
+  where
+    go : (w : Bool) → _≡_ {A = ℕ} 0 (cond w 0 11) → w ≡ true
+    go true z = refl
+    go false z = absurd (omega arith)
+
 module _ (book script : List ℕ) where
   abbrev needed : ℕ
   needed = requiredLength (variablesOf book) (clausesOf book)
-
-  -- a length is told of book numbers of the right form
-  told-length : (n : ℕ) → count.Of n ≡ requiredAnswer book → (wellFormed book ≡ true) × (needed ≡ n)
-  unfolding requiredAnswer
-  told-length n e = let told = outcome-accepted (cond (wellFormed book) 0 11) needed n (count-of n _ e) in (go (wellFormed book) (told .0), told .1)
-    where
-      go : (w : Bool) → _≡_ {A = ℕ} 0 (cond w 0 11) → w ≡ true
-      go true z = refl
-      go false z = absurd (omega arith)
 
   pub answers-fault : (n : ℕ) → count.Refused n ≡ requiredAnswer book → Refused n ≡ quoteAnswer book script
   unfolding requiredAnswer quoteAnswer
@@ -51,8 +51,8 @@ module _ (book script : List ℕ) where
       go false quoted z other = ap Refused (sym z)
 
   module _ (n b : ℕ) (e : count.Of n ≡ requiredAnswer book) (lines : b ≡ backLines script) where
-    pub well : wellFormed book ≡ true
-    well = told-length n e .0
+    well : wellFormed book ≡ true
+    well = told-length book n e .0
 
     pub answers-many : maxBackLines < b → Refused 17 ≡ quoteAnswer book script
     unfolding quoteAnswer
@@ -60,7 +60,13 @@ module _ (book script : List ℕ) where
 
     pub answers-quote : b ≤ maxBackLines → (w : ℕ) → w ≡ worst (formulaOf book) → Of n w b (w * (b + 1)) ≡ quoteAnswer book script
     unfolding quoteAnswer
-    answers-quote few w is = rw (well, ← lines, le-ltb maxBackLines b few, ← is, told-length n e .1)
+    answers-quote few w is = rw (well, ← lines, le-ltb maxBackLines b few, ← is, told-length book n e .1)
+
+-- On book numbers of the right form, and for at most 1,000,000 such lines, a quote is given.
+pub quote-given : (book script : List ℕ) → wellFormed book ≡ true → backLines script ≤ maxBackLines
+    → quoteAnswer book script ≡ Of (requiredLength (variablesOf book) (clausesOf book)) (worst (formulaOf book)) (backLines script) (quotedCeiling book script)
+unfolding quoteAnswer
+quote-given book script well few = rw (well, le-ltb maxBackLines (backLines script) few)
 
 -- What a quote tells.
 pub record Quoted (book script : List ℕ) (n w b most : ℕ) : Type 0 where

@@ -28,10 +28,10 @@ use Rattle.session.proofs.ToldLaws.{outcome-refused, answer-refused}
 use Rattle.session.proofs.Statements.{statement-3}
 use Rattle.script.specs.declared.Cause.the-variants.{Opening}
 use Rattle.script.specs.Desk.{propagatedLine, outputFor, deskOutput}
-use Rattle.quote.specs.Quote.{scriptCalls, backLines, quoteAnswer, EndsWithin}
+use Rattle.quote.specs.Quote.{scriptCalls, backLines, maxBackLines, quoteAnswer, EndsWithin}
 use Rattle.quote.specs.declared.Quote.the-variants.{Of}
 use Rattle.quote.proofs.ScriptCalls.{back-lines, asked-part, script-run, back-lines-part}
-use Rattle.quote.proofs.AnswerLaws.{product-small, Quoted, quoted}
+use Rattle.quote.proofs.AnswerLaws.{product-small, quote-given, Quoted, quoted}
 
 module _ (book script : List ℕ) (n w b most : ℕ) (e : quoteAnswer book script ≡ Of n w b most) where
   told : Quoted book script n w b most
@@ -106,11 +106,11 @@ module _ (book script : List ℕ) (n w b most : ℕ) (e : quoteAnswer book scrip
           go true q is = ltb-true room needed q
           go false q is = absurd (omega arith)
 
--- The book of a text that `read` wrote to lent numbers: running the script on that text costs no more than is quoted for those numbers.
-pub quote-covers-text : (text buffer script : List ℕ) (v c l : ℕ) → readAnswer (readText text) (length buffer) ≡ Book v c l
-    → (n w b most : ℕ) → quoteAnswer (numbersAfter (readText text) buffer) script ≡ Of n w b most
-    → EndsWithin most (formulaOf (numbersAfter (readText text) buffer)) script (deskOutput text script)
-quote-covers-text text buffer script v c l read n w b most e = go (readText text) refl read
+-- For the numbers that `read` wrote for a text, and a script of at most 1,000,000 such lines, a quote is given, and running the script on that text costs no more.
+pub quote-covers-text : (text buffer script : List ℕ) (v c l : ℕ) → readAnswer (readText text) (length buffer) ≡ Book v c l → backLines script ≤ maxBackLines
+    → (n w b most : ℕ) × (quoteAnswer (numbersAfter (readText text) buffer) script ≡ Of n w b most)
+    × EndsWithin most (formulaOf (numbersAfter (readText text) buffer)) script (deskOutput text script)
+quote-covers-text text buffer script v c l read few = go (readText text) refl read
   where
     numbers : List ℕ
     numbers = numbersAfter (readText text) buffer
@@ -121,8 +121,10 @@ quote-covers-text text buffer script v c l read n w b most e = go (readText text
     roomy formula true q z = let z : _≡_ {A = ℕ} 0 1 = cc in absurd (omega arith)
     roomy formula false q z = ltb-false (length buffer) (length (numbersOf formula)) q
 
-    go : (judged : Judged) → readText text ≡ judged → readAnswer judged (length buffer) ≡ Book v c l → EndsWithin most (formulaOf numbers) script (deskOutput text script)
+    go : (judged : Judged) → readText text ≡ judged → readAnswer judged (length buffer) ≡ Book v c l
+        → (n w b most : ℕ) × (quoteAnswer numbers script ≡ Of n w b most) × EndsWithin most (formulaOf numbers) script (deskOutput text script)
     go (refused number) q z = let z : _≡_ {A = ℕ} 0 1 = cc in absurd (omega arith)
     go (accepted formula) q z =
-        let holds : formulaOf numbers ≡ formula = read-formula text buffer formula q (roomy formula (ltb (length buffer) (length (numbersOf formula))) refl z) .0 in
-        quote-covers numbers script n w b most e text (q ∙ ap accepted (sym holds))
+        let holds = read-formula text buffer formula q (roomy formula (ltb (length buffer) (length (numbersOf formula))) refl z) in
+        let given = quote-given numbers script (holds .1) few in
+        (_, _, _, _, given, quote-covers numbers script _ _ _ _ given text (q ∙ ap accepted (sym (holds .0))))

@@ -8,15 +8,13 @@ use lib.ListN.{length}
 use Rattle.base.specs.Lists.{keep, flat, sum}
 use Rattle.book.specs.Formula.{Formula}
 use Rattle.book.specs.Numbers.{variablesOf, clausesOf, wellFormed, formulaOf}
-use Rattle.run.specs.Trail.{decisions}
-use Rattle.run.specs.Run.{Run}
 use Rattle.run.specs.Calls.{Call, decision, backtrackBy, reference}
 use Rattle.run.specs.Ceiling.{worst}
 use Rattle.layout.specs.Layout.{requiredLength}
 use Rattle.script.specs.declared.Line.{Line}
 use Rattle.script.specs.declared.Line.the-variants.{Choose, Back, Malformed}
 use Rattle.script.specs.Script.{scriptLines, lineOf}
-use Rattle.script.specs.Answers.{endLine}
+use Rattle.script.specs.Desk.{endLineOf}
 use Rattle.quote.specs.declared.Quote.{Quote}
 use Rattle.quote.specs.declared.Quote.the-variants.{Of, Refused}
 
@@ -28,10 +26,6 @@ lineCalls Malformed = []
 
 unfoldable pub scriptCalls : List ℕ → List Call
 scriptCalls script = flat (map (λ (line : List ℕ). lineCalls (lineOf line)) (scriptLines script))
-
--- the last line that the program prints where its calls have led to a run: decisions in force, accepted backtracks, total checks
-abbrev pub lastLine : Run → List ℕ
-lastLine run = endLine (length (decisions (run .trail))) (run .backtracks) (sum (run .checks))
 
 -- a line of the form `b k`, as the script program reads lines, whatever k is
 unfoldable pub isBack : Line → Bool
@@ -63,5 +57,5 @@ quoteAnswer book script =
 -- What the program prints for a script ends with the last line of the reference run of its calls, and that shows at most so many checks.
 pub record EndsWithin (most : ℕ) (formula : Formula) (script output : List ℕ) : Type 0 where
   pub before : List ℕ
-  pub ends : output ≡ before ++ lastLine (reference formula (scriptCalls script))
+  pub ends : output ≡ before ++ endLineOf (reference formula (scriptCalls script))
   pub within : sum (reference formula (scriptCalls script) .checks) ≤ most

@@ -7,12 +7,12 @@ use layout::ceiling::worst;
 // The most lines of the form `b k` in a script that is quoted for (`maxBackLines`).
 pub const MAX_BACK_LINES: usize = 1000000;
 
-// What a quote tells: the session's length, W, the lines of the form `b k` and the quoted ceiling; or the refusal number.
+// What a quote tells: the session's length, W, how many lines of the form `b k` the script has, and the quoted ceiling; or the refusal number.
 pub enum Quote {
     Of {
         length: u32,
         worst: u32,
-        backtracks: u32,
+        back_lines: u32,
         ceiling: u64,
     },
     Refused(u32),
@@ -52,16 +52,16 @@ pub fn quote_script(book: &[u32], script: &[u8]) -> Quote
     match session::required_length(book) {
         session::Count::Refused(number) => Quote::Refused(number),
         session::Count::Of(length) => {
-            let backtracks = back_lines(script);
-            if MAX_BACK_LINES < backtracks {
+            let lines = back_lines(script);
+            if MAX_BACK_LINES < lines {
                 return Quote::Refused(17);
             }
             let worst = worst(book);
             Quote::Of {
                 length,
                 worst,
-                backtracks: backtracks as u32,
-                ceiling: worst as u64 * (backtracks as u64 + 1),
+                back_lines: lines as u32,
+                ceiling: worst as u64 * (lines as u64 + 1),
             }
         }
     }

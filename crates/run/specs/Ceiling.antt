@@ -36,11 +36,11 @@ checksSince formula c calls = checksOf (reference formula calls) c - countBefore
 abbrev pub ceiling : ℕ → ℕ
 ceiling n = 2 * n - 3
 
--- The most checks of a clause in one period; one of fewer than two literals costs none.
+-- The ceiling of any clause in one period; one of fewer than two literals costs none.
 unfoldable pub clauseWorst : List ℕ → ℕ
 clauseWorst clause = cond (leb 2 (length clause)) (ceiling (length clause)) 0
 
--- W: the most checks of all clauses in one period.
+-- W: the ceiling of all clauses together in one period.
 unfoldable pub worst : Formula → ℕ
 worst formula = sum (map clauseWorst (formula .clauses))
 

@@ -38,9 +38,13 @@ stepOf formula run (Choose l) = step formula run (decision l)
 stepOf formula run (Back k) = step formula run (backtrackBy k)
 stepOf formula run Malformed = run
 
--- one answer a line, then the last line: decisions in force, accepted backtracks, total checks
+-- the last line where the script has led to a run: decisions in force, accepted backtracks, total checks
+abbrev pub endLineOf : Run → List ℕ
+endLineOf run = endLine (length (decisions (run .trail))) (run .backtracks) (sum (run .checks))
+
+-- one answer a line, then the last line
 unfoldable pub answersTo : Formula → Run → List (List ℕ) → List ℕ
-answersTo formula run [] = endLine (length (decisions (run .trail))) (run .backtracks) (sum (run .checks))
+answersTo formula run [] = endLineOf run
 answersTo formula run (line ∷ lines) =
     answerTo formula run (lineOf line) ++ answersTo formula (stepOf formula run (lineOf line)) lines
 

@@ -38,7 +38,7 @@ pub fn line_end(bytes: &[u8]) -> usize
         }
         i += 1;
     }
-    i
+    bytes.len()
 }
 
 // Reads one line, without its byte 10.

@@ -181,12 +181,12 @@ pub(crate) fn quoted(answer: Quote) -> u32 {
         Quote::Of {
             length,
             worst,
-            backtracks,
+            back_lines,
             ceiling,
         } => {
             say(messages::REQUIRED, length);
             say(messages::WORST, worst);
-            say(messages::BACK_LINES, backtracks);
+            say(messages::BACK_LINES, back_lines);
             say_wide(messages::CEILING, ceiling as usize);
             0
         }

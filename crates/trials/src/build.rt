@@ -76,9 +76,9 @@ fn put(text: &mut [u8], at: usize, bytes: &[u8]) -> usize {
     to
 }
 
-// Puts field k of a row so many times.
-fn put_field(text: &mut [u8], at: usize, row: &[u8], k: u32, times: u32) -> usize {
-    let span = part(row, b'|', k);
+// Puts part k of a row, whose parts are parted by a byte, so many times.
+fn put_field(text: &mut [u8], at: usize, row: &[u8], byte: u8, k: u32, times: u32) -> usize {
+    let span = part(row, byte, k);
     let from = span.from;
     let end = span.to;
     let mut to = at;
@@ -102,47 +102,11 @@ pub fn decode(space: &mut [u8], bytes: &[u8]) -> usize
 pub(crate) fn text(space: &mut [u8], base: &[u8], row: &[u8]) -> usize
     ensures { λ r. ⌜ r ≤ length (now (space .entry)) ⌝ }
 {
-    let head = put_field(space, 0, row, 2, 1);
-    let pieces = put_field(space, head, row, 3, number(row, b'|', 4));
-    let bases = put_field(space, pieces, base, 2, number(row, b'|', 5));
-    let n = put_field(space, bases, row, 6, 1);
+    let head = put_field(space, 0, row, b'|', 2, 1);
+    let pieces = put_field(space, head, row, b'|', 3, number(row, b'|', 4));
+    let bases = put_field(space, pieces, base, b'|', 2, number(row, b'|', 5));
+    let n = put_field(space, bases, row, b'|', 6, 1);
     fitting(n, space.len())
-}
-
-// Puts bytes as they are from a place on; answers as `put` does.
-fn copy(text: &mut [u8], at: usize, bytes: &[u8]) -> usize {
-    let mut to = at;
-    let mut i = 0;
-    while i < bytes.len() {
-        if to >= text.len() {
-            return text.len() + 1;
-        }
-        text[to] = bytes[i];
-        to += 1;
-        i += 1;
-    }
-    to
-}
-
-// The same so many times.
-fn copy_times(text: &mut [u8], at: usize, bytes: &[u8], times: u32) -> usize {
-    let mut to = at;
-    let mut left = times;
-    while left > 0 {
-        to = copy(text, to, bytes);
-        left -= 1;
-    }
-    to
-}
-
-// Puts what part k of a script writes so many times.
-fn put_piece(text: &mut [u8], at: usize, script: &[u8], k: u32, times: u32) -> usize {
-    let mut piece = [0u8; 256];
-    let span = part(script, b'*', k);
-    let from = span.from;
-    let to = span.to;
-    let n = decode(&mut piece, &script[from..to]);
-    copy_times(text, at, &piece[0..n], times)
 }
 
 // Whether a script has parts, parted by `*`, some of them repeated.
@@ -154,8 +118,8 @@ pub fn has_parts(script: &[u8]) -> bool {
 pub fn script_of(space: &mut [u8], script: &[u8]) -> usize
     ensures { λ r. ⌜ r ≤ length (now (space .entry)) ⌝ }
 {
-    let head = put_piece(space, 0, script, 0, 1);
-    let pieces = put_piece(space, head, script, 1, number(script, b'*', 2));
-    let n = put_piece(space, pieces, script, 3, number(script, b'*', 4));
+    let head = put_field(space, 0, script, b'*', 0, 1);
+    let pieces = put_field(space, head, script, b'*', 1, number(script, b'*', 2));
+    let n = put_field(space, pieces, script, b'*', 3, number(script, b'*', 4));
     fitting(n, space.len())
 }

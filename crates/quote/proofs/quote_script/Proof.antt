@@ -6,7 +6,7 @@ use borrow.Author.Needs.{needs}
 use Rattle.book.specs.Numbers.{wellFormed}
 use Rattle.session.specs.Outcomes.{requiredAnswer}
 use Rattle.session.specs.declared.Count.the-variants as count
-use Rattle.quote.proofs.AnswerLaws.{answers-fault, well, answers-many, product-small, answers-quote}
+use Rattle.quote.proofs.AnswerLaws.{told-length, answers-fault, answers-many, product-small, answers-quote}
 use Rattle.quote.proofs.quote_script.Statement.{statement}
 use Rattle.quote.proofs.quote_script.Tie as tie
 
@@ -33,7 +33,7 @@ returns c = answers-many _ _ _ _ (told (c .before)) (c .before .back-lines .ensu
 
 -- of book numbers of the right form
 right : (c : tie.Else1) → wellFormed (c .before .before .before .before .before .before .before .before .args .book .now) ≡ true
-right c = well _ (c .before .before .before .before .before .before .before .before .args .script .now) _ _ (told (c .before)) (c .before .back-lines .ensures)
+right c = told-length _ _ (told (c .before)) .0
 
 worst-requires : tie.Need-worst-requires
 worst-requires c κs = right c

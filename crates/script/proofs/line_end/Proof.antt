@@ -38,7 +38,9 @@ loop-again c =
     running-step lineEnd (at-loop .before .args .bytes .now) 0 (at-loop .loop .i) (at-loop .loop .inv) (search needs) (byte-goes-on _ (c .if1 .left))
 
 returns-2 : tie.Need-returns-2 Inv-loop μ-loop
-returns-2 c = omega (arith, running-end lineEnd (c .before .before .args .bytes .now) 0 (c .before .loop .i) (c .before .loop .inv) (search needs))
+returns-2 c =
+    let at-loop = c .before in
+    omega (arith, at-loop .loop .inv .within, running-end lineEnd (at-loop .before .args .bytes .now) 0 (at-loop .loop .i) (at-loop .loop .inv) (search needs))
 
 pub line-end-spec : {M : Type 1} → statement M
 line-end-spec =

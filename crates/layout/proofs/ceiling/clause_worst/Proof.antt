@@ -4,7 +4,7 @@ use borrow.Author.Needs.{needs}
 use Prim.Native.Nat.{_+_}
 use Rattle.book.proofs.PartLaws.{start-within}
 use Rattle.book.proofs.WellFormedLaws.{well-formed-parted, well-formed-limited}
-use Rattle.layout.proofs.CeilingLaws.{rises, unscanned, scanned}
+use Rattle.layout.proofs.ceiling.Laws.{rises, unscanned, scanned}
 use Rattle.layout.proofs.ceiling.clause_worst.Statement.{statement}
 use Rattle.layout.proofs.ceiling.clause_worst.Tie as tie
 

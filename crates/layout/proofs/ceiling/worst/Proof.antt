@@ -2,7 +2,7 @@
 use Prim.Native.Nat.{_+_, _-_}
 use native.Mathlib.Omega.{arith}
 use borrow.Author.Needs.{needs}
-use Rattle.layout.proofs.CeilingLaws.{WorstBefore, worst-none, worst-more, worst-all, worst-small}
+use Rattle.layout.proofs.ceiling.Laws.{WorstBefore, worst-none, worst-more, worst-all, worst-small}
 use Rattle.layout.proofs.ceiling.worst.Statement.{statement}
 use Rattle.layout.proofs.ceiling.worst.Tie as tie
 

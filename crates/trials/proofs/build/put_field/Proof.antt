@@ -7,10 +7,10 @@ use Rattle.trials.proofs.build.put_field.Statement.{statement}
 use Rattle.trials.proofs.build.put_field.Tie as tie
 
 abbrev Inv-loop : tie.InvT-loop
-Inv-loop text₀ at row k times from end to₀ left₀ text to left = (length text ≡ length text₀) × (from ≤ end) × (end ≤ length row)
+Inv-loop text₀ at row byte k times from end to₀ left₀ text to left = (length text ≡ length text₀) × (from ≤ end) × (end ≤ length row)
 
 abbrev μ-loop : tie.MeasureT-loop
-μ-loop text₀ at row k times from end to₀ left₀ text to left = left
+μ-loop text₀ at row byte k times from end to₀ left₀ text to left = left
 
 part-requires : tie.Need-part-requires Inv-loop μ-loop
 part-requires c κs = search needs

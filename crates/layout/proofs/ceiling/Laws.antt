@@ -1,4 +1,4 @@
--- The most checks of a clause, by where it begins and ends in the book numbers, and W, as the loop over the clauses meets it.
+-- The ceiling of a clause, by where it begins and ends in the book numbers, and W, as the loop over the clauses meets it.
 use Prim.Native.Nat.{ℕ, suc, _+_, _*_, _-_, _≤_, _<_}
 use mathlib.Core.Path.{_≡_, sym, ap, _∙_}
 use mathlib.Core.Bool.{true}
@@ -36,28 +36,27 @@ module _ (book : List ℕ) (well : wellFormed book ≡ true) where
 -- W, as the loop over the clauses meets it
 module _ (book : List ℕ) where
   -- what the loop knows: `sum` is the sum over the first c clauses
-  pub record WorstBefore (sum c : ℕ) : Type 0 where
-    pub within : c ≤ clausesOf book
-    pub summed : Summed (map clauseWorst (formulaOf book .clauses)) sum c
+  abbrev pub WorstBefore : ℕ → ℕ → Type 0
+  WorstBefore sum c = Summed (map clauseWorst (formulaOf book .clauses)) sum c
 
   counted : length (map clauseWorst (formulaOf book .clauses)) ≡ clausesOf book
   counted = length-map (formulaOf book .clauses) clauseWorst ∙ clauses-counted book
 
   pub worst-none : WorstBefore 0 0
-  worst-none = record { within = omega arith; summed = summed-none (map clauseWorst (formulaOf book .clauses)) }
+  worst-none = summed-none (map clauseWorst (formulaOf book .clauses))
 
   pub worst-more : (sum c n : ℕ) → WorstBefore sum c → c < clausesOf book → n ≡ clauseWorst (clauseAt book c) → WorstBefore (sum + n) (c + 1)
   unfolding clauseWorst
   worst-more sum c n r h e =
       let here : getD (map clauseWorst (formulaOf book .clauses)) c 0 ≡ clauseWorst (clauseAt book c)
       = List·getD-map clauseWorst (formulaOf book .clauses) c [] ∙ ap clauseWorst (clause-of-formula book c h) in
-      record { within = omega arith; summed = summed-more _ sum c n (r .summed) (omega (arith, counted)) (e ∙ sym here) }
+      summed-more _ sum c n r (omega (arith, counted)) (e ∙ sym here)
 
   pub worst-all : (sum c : ℕ) → WorstBefore sum c → clausesOf book ≤ c → sum ≡ worst (formulaOf book)
   unfolding worst
-  worst-all sum c r h = summed-all _ sum c (r .summed) (omega (arith, counted))
+  worst-all sum c r h = summed-all _ sum c r (omega (arith, counted))
 
   -- so far it is small
   pub worst-small : wellFormed book ≡ true → (sum c : ℕ) → WorstBefore sum c → sum ≤ 11928
   unfolding worst
-  worst-small well sum c r = omega (arith, r .summed .rest, worst-within (formulaOf book) (well-formed-sound book well))
+  worst-small well sum c r = omega (arith, r .rest, worst-within (formulaOf book) (well-formed-sound book well))

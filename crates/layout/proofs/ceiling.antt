@@ -1,0 +1,2 @@
+-- The laws of src/ceiling.rt.
+pub mod Laws
