@@ -18,7 +18,7 @@ run() {
 due() {
     local lines
     lines=$(LC_ALL=C grep -a -c -E '^b [0-9]{1,9}$' "$1") || true
-    awk -v lines="$lines" '
+    awk -v lines="$lines" -v apostrophe="'" '
         function grouped(n) { return n < 1000 ? n : grouped(int(n / 1000)) sprintf(",%03d", n % 1000) }
         function counted(n, word) { return grouped(n) " " word (n == 1 ? "" : "s") }
         $1 == "end" { backs = $5; checks = $7; next }
@@ -28,7 +28,7 @@ due() {
         END {
             print "before the session"
             print "  it needs " counted(length_due, "number")
-            print "  its rules cost at most " counted(worst, "check") " until the first take-back, and as many again after each one"
+            print "  the tariff" apostrophe "s rules cost at most " counted(worst, "check") " until the first take-back, and as many again after each one"
             print "  the script has " counted(lines, "line") " of take-backs, so it costs at most " counted(worst * (lines + 1), "check")
             print "after the session"
             print "  " counted(backs, "take-back") (backs == 1 ? " was" : " were") " accepted"
@@ -74,7 +74,10 @@ asks_often 1000001
 says "$name" 'the script has more than 1,000,000 lines of take-backs'
 asks_often 1000000
 [[ $(run "target/tests/$name") = *'has 1,000,000 lines of take-backs, so it costs at most 260,000,260 checks'* ]] || wrong 'no quote for 1,000,000 lines'
+script=$motor
+says "$name" 'the script cannot be read'
 script=$motor/script
+diff "$stored" <(cat "$script" | "target/tests/$name" "$motor/tariff.cnf" /dev/stdin) || wrong 'another quote for a script that comes through a pipe'
 notices 's/(TARIFF_QUOTED_LENGTH) 0/\1 1/; s/(TARIFF_QUOTED_WORST) 1/\1 0/'
 notices 's/(TARIFF_QUOTED_WORST) 1/\1 2/; s/(TARIFF_QUOTED_BACK_LINES) 2/\1 1/'
 notices 's/(TARIFF_QUOTED_LENGTH) 0/\1 2/; s/(TARIFF_QUOTED_BACK_LINES) 2/\1 0/'

@@ -289,7 +289,7 @@ fn equal(compared: &Compared) -> String {
     let named: Vec<String> = numbers.map(|number| number.to_string()).collect();
     format!(
         "Both engines gave equal answers and left equal numbers in {} calls: {} accepted, {} in conflict, {} refused (numbers {}).\n\
-         These are all workloads and texts above, random calls between them, small books, and damaged sessions, books and texts.\n\
+         These are all workloads and texts above, random calls between them, small books, damaged sessions, books and texts, and quotes for scripts of good and of strange lines.\n\
          In {} states every feature was looked up, with its level.\n\
          The engine's steps without examination left the same numbers as the call in {} steps: all accepted decisions and backtracks of the scripts, and all accepted fixings.\n\
          In {} of the states CaDiCaL, asked afresh, propagated the same values, or a conflict where the session has one.\n\

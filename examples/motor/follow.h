@@ -53,10 +53,12 @@ static void tell_contradiction(uint64_t answer) {
     if (tariff_kind(answer) == TARIFF_CONFLICT && at_contradiction) at_contradiction(tariff_number(answer));
 }
 
-static void open_session(void) {
-    needed = tariff_number(tariff_required_length(book, TARIFF_BOOK));
+static void open_in(size_t numbers) {
+    needed = numbers;
     tell_contradiction(tariff_open(book, TARIFF_BOOK, session, needed));
 }
+
+static inline void open_session(void) { open_in(tariff_number(tariff_required_length(book, TARIFF_BOOK))); }
 
 /* A refused choice changes nothing; one that contradicts a rule is in force until it is taken back. */
 static void choose(uint32_t feature, uint32_t literal) {
@@ -91,17 +93,25 @@ static void follow_line(const char *line) {
 }
 
 /* Of a line 15 bytes are kept, more than a choice or a take-back has; a byte 0 is in neither. */
-static void follow(const char *path) {
-    FILE *file = fopen(path, "r");
-    if (!file) fail("no such script");
-    for (int byte = 0; byte != EOF;) {
-        char line[16];
-        size_t length = 0;
-        while ((byte = fgetc(file)) != '\n' && byte != EOF)
-            if (length < sizeof line - 1) line[length++] = byte == 0 ? '?' : (char)byte;
+static void follow_byte(int byte) {
+    static char line[16];
+    static size_t length;
+    if (byte == '\n') {
         line[length] = '\0';
+        length = 0;
         follow_line(line);
+    } else if (length < sizeof line - 1) {
+        line[length++] = byte == 0 ? '?' : (char)byte;
     }
+}
+
+/* The last line may lack its end; where it has it, an empty line comes behind, which is passed over. */
+static inline void follow(const char *path) {
+    FILE *file = fopen(path, "rb");
+    if (!file) fail("no such script");
+    for (int byte = fgetc(file); byte != EOF; byte = fgetc(file)) follow_byte(byte);
+    if (ferror(file)) fail("the script cannot be read");
+    follow_byte('\n');
     fclose(file);
 }
 

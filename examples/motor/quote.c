@@ -1,45 +1,49 @@
 /* Says what the session of a script on a tariff needs and costs at most, before it is opened; then makes the session and says what it cost. */
 #include "follow.h"
 
+static uint8_t *script;
+static size_t length; /* how many bytes it has */
 static uint32_t quoted[TARIFF_QUOTED];
 static uint64_t ceiling;
 
-/* All bytes of the script; `follow` reads them once more, line by line. */
-static uint8_t *read_script(const char *path, size_t *length) {
+static void read_script(const char *path) {
     FILE *file = fopen(path, "rb");
     if (!file) fail("no such script");
-    uint8_t *script = NULL;
     size_t room = 0;
-    *length = 0;
     do {
         room = 2 * room + 4096;
         script = (uint8_t *)realloc(script, room);
         if (!script) fail("no memory for the script");
-        *length += fread(script + *length, 1, room - *length, file);
-    } while (*length == room);
+        length += fread(script + length, 1, room - length, file);
+    } while (length == room);
+    if (ferror(file)) fail("the script cannot be read");
     fclose(file);
-    return script;
 }
 
 /* The tariff was accepted, so that its book is not at fault: only a script of too many lines is refused. */
-static void quote(const char *path) {
-    size_t length;
-    uint8_t *script = read_script(path, &length);
+static void quote(void) {
     uint64_t answer = tariff_quote(book, TARIFF_BOOK, script, length, quoted, TARIFF_QUOTED, &ceiling);
     if (tariff_kind(answer) != TARIFF_ACCEPTED) fail("the script has more than 1,000,000 lines of take-backs");
-    free(script);
 }
 
 static void say_quote(void) {
     printf("before the session\n  it needs ");
     say_count(quoted[TARIFF_QUOTED_LENGTH], "number");
-    printf("\n  its rules cost at most ");
+    printf("\n  the tariff's rules cost at most ");
     say_count(quoted[TARIFF_QUOTED_WORST], "check");
     printf(" until the first take-back, and as many again after each one\n  the script has ");
     say_count(quoted[TARIFF_QUOTED_BACK_LINES], "line");
     printf(" of take-backs, so it costs at most ");
     say_count(ceiling, "check");
     printf("\n");
+}
+
+/* In as many numbers as quoted, and on the bytes that were quoted for. */
+static void make_session(void) {
+    open_in(quoted[TARIFF_QUOTED_LENGTH]);
+    for (size_t i = 0; i < length; i++) follow_byte(script[i]);
+    follow_byte('\n');
+    free(script);
 }
 
 static void say_cost(void) {
@@ -58,10 +62,10 @@ int main(int count, char **words) {
     program = "quote";
     if (count != 3) fail("usage: quote TARIFF SCRIPT");
     read_tariff(words[1]);
-    quote(words[2]);
+    read_script(words[2]);
+    quote();
     say_quote();
-    open_session();
-    follow(words[2]);
+    make_session();
     say_cost();
     return 0;
 }
