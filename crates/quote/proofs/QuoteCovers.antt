@@ -81,7 +81,7 @@ module _ (book script : List ℕ) (n w b most : ℕ) (e : quoteAnswer book scrip
   quote-covers-part first rest parts =
       script-within (first ++ (10 ∷ [])) (omega (arith, told .lines-are, ap backLines parts, back-lines-part first rest))
 
-  -- It has 64 bits: it is at most 11,928 × 1,000,001.
+  -- The ceiling has 64 bits: it is at most 11,928 × 1,000,001.
   pub quote-most : most ≤ 11928011928
   quote-most = omega (arith, told .ceiling-is, product-small book (worst (formulaOf book)) (backLines script) (told .well) refl (omega (arith, told .lines-are, told .few-lines)))
 
