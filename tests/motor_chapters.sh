@@ -18,7 +18,8 @@ run() {
 # and the output of `desk`.
 by_comments() {
     awk '
-        function counted(count, word) { return (count + 0) " " word (count == 1 ? "" : "s") }
+        function grouped(n) { return n < 1000 ? n : grouped(int(n / 1000)) sprintf(",%03d", n % 1000) }
+        function counted(count, word) { return grouped(count + 0) " " word (count == 1 ? "" : "s") }
         FILENAME ~ /checks$/ { checks[$1] = $2; next }
         $1 == "end" { total = $NF; next }
         /^c == / { names[++headings] = substr($0, 6) }
@@ -34,7 +35,11 @@ by_comments() {
 
 # agrees FILE: what is stored of the example is what is due, and the checks of its chapters sum up to the total.
 agrees() {
-    diff <(by_comments) "$1" && awk '/ in all$/ { total = $1; next } { sum += $(NF - 1) } END { exit sum != total }' "$1"
+    diff <(by_comments) "$1" && awk '
+        function ungrouped(n) { gsub(/,/, "", n); return n + 0 }
+        / in all$/ { total = ungrouped($1); next }
+        { sum += ungrouped($(NF - 1)) }
+        END { exit sum != total }' "$1"
 }
 
 # written EDIT: from now on the example is run on a copy of the tariff with this sed edit.

@@ -16,7 +16,7 @@ struct RunEngine {
     Run run;
 
     void open() { run.open(); }
-    void take(const Call& call) { answer_call(run, call); }
+    uint64_t take(const Call& call) { return answer_call(run, call); }
     uint64_t total() const { return run.total(); }
 };
 
@@ -58,12 +58,13 @@ inline uint64_t open_by_library(const Numbers& book, Numbers& session) {
     return tariff_open(book.data(), book.size(), session.data(), session.size());
 }
 
-// In the quoted numbers the opening is accepted, whatever it comes to; in one fewer it is refused by 10, and nothing is written.
-inline void compare_openings(Random& random, const Numbers& book, const Due& quoted, const Opening& open) {
+// In the quoted numbers the opening is accepted, whatever it comes to; in one fewer it is refused by 10, and nothing is written. How many were compared.
+inline long compare_openings(Random& random, const Numbers& book, const Due& quoted, const Opening& open) {
     Lent exact(random, quoted.length), few(random, quoted.length - 1);
     expect(tariff_kind(open(book, exact.numbers)) != TARIFF_REFUSED, "opening in the quoted length is refused");
     compare_number(open(book, few.numbers), c_refusal(10), "opening in numbers", few.numbers.size());
     compare_memory(few.numbers, few.before, "number of a refused opening");
+    return 2;
 }
 
 // How near the checks of scripts came to their ceilings.

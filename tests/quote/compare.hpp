@@ -49,20 +49,21 @@ inline Due compare_plain(Random& random, const Generated& made, const Numbers& b
     return compare_quote(lent, made.formula, by_library);
 }
 
-// A fixing of any of the first decisions, now and then, which costs nothing.
+// A fixing of any of the first decisions, now and then, which costs nothing. How many were accepted.
 template <class Engine>
-void fix_some(Random& random, Engine& engine) {
-    if (!random.chance(15)) return;
+long fix_some(Random& random, Engine& engine) {
+    if (!random.chance(15)) return 0;
     uint64_t before = engine.total();
     uint32_t number = static_cast<uint32_t>(random.below(4));
-    engine.take({Call::FIX, number});
+    uint64_t answer = engine.take({Call::FIX, number});
     compare_number(engine.total(), before, "checks behind a fixing of", number);
+    return tariff_kind(answer) == TARIFF_ACCEPTED ? 1 : 0;
 }
 
 // The checks that the script costs by the C calls; once more with fixings between the lines, where fewer take-backs are accepted.
-inline uint64_t compare_claim(Random& random, const Generated& made, const Due& quoted) {
+inline uint64_t compare_claim(Random& random, const Generated& made, const Due& quoted, Tally& tally) {
     Library library(random, made.text), fixing(random, made.text);
-    follow_script(fixing, made.script, quoted, [&](Library& now) { fix_some(random, now); });
+    follow_script(fixing, made.script, quoted, [&](Library& now) { tally.fixings += fix_some(random, now); });
     return follow_script(library, made.script, quoted);
 }
 
@@ -82,13 +83,13 @@ struct Cost {
 };
 
 // The quote for the script, the claim of it, and what `desk` printed.
-inline Cost compare_script(Random& random, const Generated& made, const std::string& output) {
+inline Cost compare_script(Random& random, const Generated& made, const std::string& output, Tally& tally) {
     Library library(random, made.text);
     const Numbers& book = library.lent_book().numbers;
     Due quoted = compare_plain(random, made, book);
-    uint64_t total = compare_claim(random, made, quoted);
+    uint64_t total = compare_claim(random, made, quoted, tally);
     compare_desk(output, total, quoted);
-    compare_openings(random, book, quoted, open_by_library);
+    tally.openings += compare_openings(random, book, quoted, open_by_library);
     return {quoted, total};
 }
 

@@ -54,11 +54,7 @@ inline std::optional<Formula> formula_of(const Loan<uint32_t>& lent) {
     return formula;
 }
 
-inline uint64_t product(uint64_t worst, uint64_t backs) {
-    unsigned __int128 ceiling = static_cast<unsigned __int128>(worst) * (static_cast<unsigned __int128>(backs) + 1);
-    expect(ceiling >> 64 == 0, "a ceiling over 64 bits");
-    return static_cast<uint64_t>(ceiling);
-}
+inline uint64_t product(uint64_t worst, uint64_t backs) { return worst * (backs + 1); }
 
 inline Due refused_by(const Lending& lent, uint64_t number) { return {c_refusal(number), lent.out.memory, lent.ceiling}; }
 

@@ -5,7 +5,6 @@
 #include <filesystem>
 #include <iostream>
 #include <string>
-#include <vector>
 
 #include "../support/bench.hpp"
 #include "../support/shapes.hpp"
@@ -35,39 +34,29 @@ void run_case(Bench& bench, const std::filesystem::path& folder, int number, uin
     const shapes::Shape& shape = shape_of(number);
     Generated made = generate(random, shape);
     bench.run(Case{shape.name, seed, made.text, made.script, 0}, [&](const std::string& output) {
-        Cost cost = compare_script(random, made, output);
+        Cost cost = compare_script(random, made, output, counted.tally);
         if (number % 3 == 0) compare_grep(folder, made, cost.quoted), counted.by_grep++;
         compare_drawn(random, made, by_library, counted.tally);
         counted.nearest.add(cost.total, cost.quoted.ceiling);
     });
 }
 
-void compare_worked(const Worked& worked, const std::string& output, Nearest& nearest) {
-    Random random(FIRST_SEED);
-    Generated made{worked.written, as_read(worked.written), dimacs(worked.written), worked.script, 50};
-    Cost cost = compare_script(random, made, output);
-    compare_number(cost.quoted.length, worked.length, "worked length of V", static_cast<size_t>(worked.written.variables));
-    compare_number(cost.quoted.worst, worked.worst, "worked W of C", worked.written.clauses.size());
-    compare_number(cost.quoted.backs, worked.backs, "worked lines of script bytes", worked.script.size());
-    compare_number(cost.quoted.ceiling, worked.ceiling, "worked ceiling of C", worked.written.clauses.size());
-    compare_number(cost.total, worked.cost, "worked cost of C", worked.written.clauses.size());
-    nearest.add(cost.total, cost.quoted.ceiling);
-}
-
 void run_worked(Bench& bench) {
     Nearest nearest;
+    Tally tally;
     uint64_t number = 0;
     for (const Worked& worked : worked_values())
-        bench.run(Case{"worked", ++number, dimacs(worked.written), worked.script, 0},
-                  [&](const std::string& output) { compare_worked(worked, output, nearest); });
+        bench.run(Case{"worked", ++number, dimacs(worked.written), worked.script, 0}, [&](const std::string& output) {
+            Cost cost = compare_worked(worked, output, tally);
+            nearest.add(cost.total, cost.quoted.ceiling);
+        });
     nearest.print("worked scripts");
 }
 
 void run_many(Bench& bench) {
     bench.run(Case{"many", 0, "p cnf 1 0\n", "", 0}, [&](const std::string&) {
-        std::vector<Quoting> list = many_quotings({999999, 1000000, 1000001, 1000002});
-        compare_many(list, by_library);
-        std::cout << "quote: " << list.size() << " quotes for 999,999 to 1,000,002 lines `b k`, the greatest ceiling is "
+        size_t compared = compare_many(many_quotings({999999, 1000000, 1000001, 1000002, (1 << 20) + 1, (1 << 21) + 1}), by_library);
+        std::cout << "quote: " << compared << " quotes for 999,999 to 1,000,002, 1,048,577 and 2,097,153 lines `b k`, the greatest ceiling is "
                   << product(check_ceiling(heaviest()), MAX_BACK_LINES) << "\n";
     });
 }

@@ -228,6 +228,8 @@ inline List wrong_lines() {
         {"byte 0 ends a line", part, line_as([](Text& line) { cut_at(line, '\0'); })},
         {"`:` taken for a digit", part, line_as([](Text& line) { replace(line, ":", "0"); })},
         {"`/` taken for a digit", part, line_as([](Text& line) { replace(line, "/", "0"); })},
+        {"length in 8 bits", part, line_as([](Text& line) { line.resize(line.size() % 256); })},
+        {"length in 16 bits", part, line_as([](Text& line) { line.resize(line.size() % 65536); })},
         {"digits in 7 bits", part, line_as([](Text& line) { replace(line, "\xb0", "0"); })},
     };
 }
@@ -261,11 +263,13 @@ inline List wrong_answers() {
     using Code = uint64_t;
     auto fitting = [](Code code, const Lending& lent) { return code == QUOTED ? std::min(QUOTED, lent.out.length) : code; };
     auto too_few = [](Code code, const Lending& lent) { return code == QUOTED && is_short(lent) ? c_refusal(10) : code; };
+    auto long_book = [](Code code, const Lending& lent) { return lent.book.length > TARIFF_BOOK ? c_refusal(11) : code; };
     return {
         {"the places that fit answered", "answer", answer_as(fitting)},
         {"10 for too few places", "answer", answer_as(too_few)},
         {"12 for 11", "answer", answer_as([](Code code, const Lending&) { return code == c_refusal(11) ? c_refusal(12) : code; })},
         {"0 for 3", "answer", answer_as([](Code code, const Lending&) { return code == QUOTED ? 0 : code; })},
+        {"11 for more numbers than a book needs", "answer", answer_as(long_book)},
         {"V and C examined alone", "answer", with(&Recipe::refusal, glance)},
     };
 }
@@ -323,6 +327,10 @@ inline uint64_t refused_by_all_lines(const Lending& lent, uint64_t) {
     return !formula_of(lent.book) ? 11 : lines_of(lent.lines()).size() > MAX_BACK_LINES ? 17 : 0;
 }
 
+inline Method lines_in(int bits) {
+    return backs_as([bits](const Lending& lent) { return back_lines(lent.lines()) % (uint64_t{1} << bits); });
+}
+
 // Wrong only for many lines.
 inline List wrong_counts() {
     using Number = uint64_t;
@@ -335,7 +343,9 @@ inline List wrong_counts() {
         {"17 before 11", "answer", with(&Recipe::refusal, refused_by_lines_first)},
         {"17 by all lines", "answer", with(&Recipe::refusal, refused_by_all_lines)},
         {"16 for 17", "answer", answer_as([](Number code, const Lending&) { return code == c_refusal(17) ? c_refusal(16) : code; })},
-        {"lines in 16 bits", "place 2", backs_as([](const Lending& lent) { return back_lines(lent.lines()) & 0xffff; })},
+        {"lines in 16 bits", "place 2", lines_in(16)},
+        {"lines in 20 bits", "answer", lines_in(20)},
+        {"lines in 21 bits", "answer", lines_in(21)},
         {"ceiling in 32 bits", "ceiling", with(&Recipe::ceiling, [](Number worst, Number backs) { return worst * (backs + 1) & FULL; })},
         {"ceiling that stops at 32 bits", "ceiling", with(&Recipe::ceiling, [](Number worst, Number backs) { return std::min(worst * (backs + 1), FULL); })},
         {"places written where refused by 17", "place", where_refused(17, [](Lending& lent) { lent.out.memory[0] ^= 1; })},

@@ -14,18 +14,24 @@ inline std::string back_line(Random& random) {
     return "b " + (random.chance(15) ? random.pick(ends) : decimal(random, random.chance(5) ? 0 : random.between(1, 3), 15));
 }
 
-// A take-back with a byte more, fewer or another; a front part of one; one byte and many.
+// How many bytes behind a line of this length make it one of about 256 or 65,536.
+inline size_t bytes_to_wrap(Random& random, size_t length) {
+    return static_cast<size_t>(random.between(-3, 11) + (random.chance(75) ? 256 : 65536)) - length;
+}
+
+// A take-back with a byte more, fewer or another; a front part of one; one byte and many, in it or behind it.
 inline std::string near_line(Random& random) {
     static const std::string bytes("\0\t\r 01239:/bB-+\x0b\x0c\xb0\xe2\xff", 20);
     std::string line = back_line(random);
     size_t place = random_place(random, line);
     char byte = bytes[static_cast<size_t>(random.below(static_cast<int>(bytes.size())))];
-    int kind = random.below(8);
+    int kind = random.below(9);
     if (kind < 3) line.insert(place, 1, byte);
     if (kind == 3 || kind == 4) line[place % line.size()] = byte;
     if (kind == 5) line.erase(place % line.size(), 1);
     if (kind == 6) line.resize(place);
     if (kind == 7) line.insert(place, static_cast<size_t>(random.between(2, random.chance(90) ? 300 : 70000)), byte);
+    if (kind == 8) line.append(bytes_to_wrap(random, line.size()), byte);
     return line;
 }
 

@@ -1,4 +1,4 @@
-// Wrong quotes, engines, openings and counts, each of which its own part of the comparison must notice, and right ones, which none may.
+// Wrong quotes and engines, each of which its own part of the comparison must notice, and right ones, which none may.
 #pragma once
 #include <cstdint>
 #include <filesystem>
@@ -11,23 +11,14 @@
 #include "../support/cases.hpp"
 #include "compare.hpp"
 #include "methods.hpp"
+#include "part_checks.hpp"
 #include "worked.hpp"
 
 constexpr uint64_t FIRST_SEED = 70110000;
-constexpr int SELF_CHECKS = 300;
+constexpr int SELF_CHECKS = 600;
 constexpr int ENOUGH = 5;
 
 inline const Cases quote_cases("quote", FIRST_SEED);
-
-// Makes a comparison; whether it disagrees, and by a message that begins with this part.
-inline bool disagrees(const std::string& part, const std::function<void()>& compare) {
-    try {
-        compare();
-        return false;
-    } catch (const Disagreement& disagreement) {
-        return std::string(disagreement.what()).rfind(part, 0) == 0;
-    }
-}
 
 inline void say(const std::string& name, int noticed, int tried, int due, const char* before) {
     std::string result = name + " " + std::to_string(noticed) + " of " + std::to_string(tried);
@@ -54,7 +45,7 @@ inline void check_methods(const methods::List& list, int due) {
 inline void check_many() {
     std::cout << "quote: noticed with many lines:";
     const char* before = " ";
-    const std::vector<Quoting> list = many_quotings({1000000, 1000001});
+    const std::vector<Quoting> list = many_quotings({1000000, 1000001, (1 << 20) + 1, (1 << 21) + 1});
     for (const methods::Named& named : methods::wrong_counts()) {
         if (!disagrees(named.part, [&] { compare_many(list, named.quote); })) throw std::runtime_error("not noticed: " + named.name);
         std::cout << before << named.name;
@@ -67,9 +58,9 @@ inline void check_many() {
 struct CostlyFixing : RunEngine {
     uint64_t fixings = 0;
 
-    void take(const Call& call) {
+    uint64_t take(const Call& call) {
         if (call.kind == Call::FIX) fixings++;
-        RunEngine::take(call);
+        return RunEngine::take(call);
     }
     uint64_t total() const { return RunEngine::total() + fixings; }
 };
@@ -114,40 +105,6 @@ inline void check_runs() {
     std::cout << std::endl;
 }
 
-// Openings that refuse the quoted length, accept one number fewer, refuse it by another number, or write there.
-inline void check_openings() {
-    Random random(FIRST_SEED);
-    Formula formula = worked_values().front().written;
-    Generated made{formula, formula, dimacs(formula), "", 50};
-    Library library(random, made.text);
-    const Numbers& book = library.lent_book().numbers;
-    Due quoted = compare_plain(random, made, book);
-    auto noticed = [&](const std::string& part, const Opening& open) {
-        if (!disagrees(part, [&] { compare_openings(random, book, quoted, open); })) throw std::runtime_error("not noticed: " + part);
-    };
-    noticed("opening in the quoted length", [&](const Numbers&, Numbers&) { return c_refusal(10); });
-    noticed("opening in numbers", [&](const Numbers&, Numbers&) { return 0; });
-    noticed("opening in numbers", [&](const Numbers& from, Numbers& session) {
-        uint64_t answer = open_by_library(from, session);
-        return answer == c_refusal(10) ? c_refusal(12) : answer;
-    });
-    noticed("number of a refused opening", [&](const Numbers& from, Numbers& session) {
-        uint64_t answer = open_by_library(from, session);
-        if (session.size() < quoted.length) session[0]++;
-        return answer;
-    });
-    std::cout << "quote: notices 4 wrong openings\n";
-}
-
-// The machine and grep count alike, and a count that is one off is noticed.
-inline void check_grep(const std::filesystem::path& folder) {
-    Generated made;
-    made.script = "b 1\n";
-    Due due;
-    due.backs = 2;
-    if (!disagrees("lines by grep", [&] { compare_grep(folder, made, due); })) throw std::runtime_error("not noticed: a line more than grep counts");
-}
-
 inline void check_wrong(const std::filesystem::path& folder) {
     std::cout << "quote: noticed, in so many of the cases tried:";
     check_methods(methods::wrong_list(), ENOUGH);
@@ -155,6 +112,5 @@ inline void check_wrong(const std::filesystem::path& folder) {
     check_methods(methods::right_list(), 0);
     check_many();
     check_runs();
-    check_openings();
-    check_grep(folder);
+    parts::check_all(folder);
 }

@@ -1,9 +1,10 @@
-// How many quotes of each kind were compared.
+// How many quotes of each kind were compared, and how many openings and fixings.
 #pragma once
 #include <algorithm>
 #include <cstddef>
 #include <cstdint>
 #include <iostream>
+#include <stdexcept>
 #include <string>
 #include <vector>
 
@@ -19,11 +20,16 @@ public:
         backs += due.backs;
     }
 
+    // Throws where something was hardly met.
     void print() const {
+        if (openings < ENOUGH || fixings < ENOUGH) throw std::runtime_error("hardly any openings or fixings");
+        std::cout << "quote: " << openings << " openings compared, and the checks behind " << fixings << " fixings between lines\n";
         std::cout << "quote: " << calls << " quotes compared, with " << backs << " lines `b k`; ";
         quoted.print(ENOUGH);
         std::cout << "\n";
     }
+
+    long openings = 0, fixings = 0;
 
 private:
     static constexpr long ENOUGH = 100;
@@ -55,6 +61,7 @@ private:
             is_quoted("2 places", [](const Lending& lent, const Due&) { return lent.out.length == 2; }),
             is_quoted("3 places", [](const Lending& lent, const Due&) { return lent.out.length == 3; }),
             is_quoted("5 places", [](const Lending& lent, const Due&) { return lent.out.length == 5; }),
+            is_quoted("over 7,504 book numbers", [](const Lending& lent, const Due&) { return lent.book.length > TARIFF_BOOK; }),
             is_quoted("an empty script", [](const Lending& lent, const Due&) { return lent.script.length == 0; }),
             is_quoted("b 0", [](const Lending&, const Due& due) { return due.backs == 0; }),
             is_quoted("b over 50", [](const Lending&, const Due& due) { return due.backs > 50; }),
@@ -67,7 +74,9 @@ private:
             has_line("an empty line", [](const Text& line) { return line.empty(); }),
             has_line("byte 0", [](const Text& line) { return line.find('\0') != Text::npos; }),
             has_line("over 255 bytes", [](const Text& line) { return line.size() > 255; }),
+            has_line("253 to 267 bytes", [](const Text& line) { return line.size() >= 253 && line.size() <= 267; }),
             has_line("over 9,999 bytes", [](const Text& line) { return line.size() > 9999; }),
+            has_line("65,533 to 65,547 bytes", [](const Text& line) { return line.size() >= 65533 && line.size() <= 65547; }),
             {"refused by 11", [](const Lending&, const Due& due) { return due.answer == c_refusal(11); }},
         };
     }

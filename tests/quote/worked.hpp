@@ -6,7 +6,7 @@
 #include <string>
 #include <vector>
 
-#include "draw.hpp"
+#include "compare.hpp"
 
 // A worked value: a book and a script, what is quoted for it, and what it costs.
 struct Worked {
@@ -57,6 +57,18 @@ inline std::vector<Worked> worked_values() {
     };
 }
 
+inline Cost compare_worked(const Worked& worked, const std::string& output, Tally& tally) {
+    Random random(0);
+    Generated made{worked.written, as_read(worked.written), dimacs(worked.written), worked.script, 50};
+    Cost cost = compare_script(random, made, output, tally);
+    compare_number(cost.quoted.length, worked.length, "worked length of V", static_cast<size_t>(worked.written.variables));
+    compare_number(cost.quoted.worst, worked.worst, "worked W of C", worked.written.clauses.size());
+    compare_number(cost.quoted.backs, worked.backs, "worked lines of script bytes", worked.script.size());
+    compare_number(cost.quoted.ceiling, worked.ceiling, "worked ceiling of C", worked.written.clauses.size());
+    compare_number(cost.total, worked.cost, "worked cost of C", worked.written.clauses.size());
+    return cost;
+}
+
 // So many lines `b k`, with others between them or not, and with or without the last byte 10.
 inline std::string many_lines(Random& random, size_t count, bool mixed, bool closed) {
     static const std::vector<std::string> others = {"1\n", "\n", "b  1\n", "b 1\r\n", "-2\n", "b\n"};
@@ -89,6 +101,12 @@ inline std::vector<Quoting> many_quotings(const std::vector<size_t>& counts) {
     return list;
 }
 
-inline void compare_many(const std::vector<Quoting>& list, const Method& quote) {
-    for (const Quoting& quoting : list) compare_quote(quoting.lent, quoting.formula, quote);
+// How many were compared.
+inline size_t compare_many(const std::vector<Quoting>& list, const Method& quote) {
+    size_t compared = 0;
+    for (const Quoting& quoting : list) {
+        compare_quote(quoting.lent, quoting.formula, quote);
+        compared++;
+    }
+    return compared;
 }
