@@ -51,7 +51,7 @@ static inline uint32_t tariff_filed(uint64_t answer) { return answer == 1; }
 /* The places of the numbers of a quote, and how many there are. */
 #define TARIFF_QUOTED_LENGTH 0     /* how many numbers a session on the book needs */
 #define TARIFF_QUOTED_WORST 1      /* W, a ceiling of the checks that the rules cost before the first take-back, and then again after each one */
-#define TARIFF_QUOTED_BACK_LINES 2 /* how many lines `b k` the script has, each asking for a take-back */
+#define TARIFF_QUOTED_BACK_LINES 2 /* how many lines `b k` the script has, accepted or not: `b`, one blank, 1 to 9 digits, nothing more */
 #define TARIFF_QUOTED 3
 
 /* A lent part is a pointer and how many it holds; no two lent parts of a call overlap, and nobody else writes them meanwhile. No pointer is
@@ -135,7 +135,8 @@ uint64_t tariff_chapters(const uint32_t *book, size_t book_length, const uint32_
 /* What is known before a session is opened: how many numbers it needs, and how many checks a script costs at most. `script` has the bytes of the whole
  * script, as `desk` reads it from its standard input. Run on this book it never costs more checks than the quoted ceiling, W x (lines `b k` + 1),
  * whatever is refused on the way; and tariff_open refuses by 10 exactly if `session` is shorter than the quoted length.
- * Accepted: TARIFF_QUOTED, how many numbers there are at the places above. Writes as many of them as fit to `out`, and nothing behind them, and the ceiling to *ceiling.
+ * Accepted: TARIFF_QUOTED, how many numbers there are at the places above. Writes as many of them as fit to `out`, and nothing behind them,
+ * and the ceiling to *ceiling.
  * Refuses: 11, then 17 where the script has more than 1,000,000 lines `b k`. */
 uint64_t tariff_quote(const uint32_t *book, size_t book_length, const uint8_t *script, size_t script_length,
                       uint32_t *out, size_t out_length, uint64_t *ceiling);

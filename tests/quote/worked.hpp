@@ -1,4 +1,4 @@
-// Books and scripts whose quotes and costs were worked out by hand, and scripts of about 1,000,000 lines.
+// Books and scripts whose quotes and costs were worked out by hand, and scripts of 999,999 to 2,097,153 lines `b k`.
 #pragma once
 #include <cstddef>
 #include <cstdint>

@@ -177,7 +177,7 @@ fn is_back(line: &[u8]) -> bool {
         .is_some_and(|k| (1..=9).contains(&k.len()) && k.iter().all(u8::is_ascii_digit))
 }
 
-/// The session's length, the most checks between two backtracks and the lines `b k` of a script; the ceiling of its checks goes to `ceiling`.
+/// The session's length, W, a ceiling of the checks between two backtracks and the lines `b k` of a script; the ceiling of its checks goes to `ceiling`.
 pub fn quote(book: &[u32], script: &[u8], out: &mut [u32], ceiling: &mut u64) -> Outcome {
     let formula = Formula::from_numbers(book).ok_or(11u32)?;
     let backs = script.split(|&byte| byte == b'\n').filter(|line| is_back(line)).count();

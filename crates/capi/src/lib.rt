@@ -229,7 +229,7 @@ pub extern "C" fn tariff_chapters(
     filing_code(chapters::chapter_totals(book, session, chapters, totals))
 }
 
-// Copies the session's length, W and how many lines of the form `b k` the script has to `out`: what fits; the quoted ceiling, into `ceiling`.
+// Copies to `out`, as far as they fit, the session's length, W and how many lines of the form `b k` the script has; the quoted ceiling goes to `ceiling`.
 #[no_mangle]
 pub extern "C" fn tariff_quote(
     book: &[u32],

@@ -50,13 +50,13 @@ pub record Points : Type 0 where
   pub cost : sum (reference listing (scriptCalls script) .checks) ≡ 4
   pub calls : scriptCalls script ≡ decision 3 ∷ decision 5 ∷ backtrackBy 1 ∷ decision 7 ∷ decision 2 ∷ backtrackBy 3 ∷ []
   pub accepted-backtracks : reference listing (scriptCalls script) .backtracks ≡ 1
-  -- A script without such lines still costs its opening and its choices.
+  -- Without such lines W is quoted once, for the opening and the choices.
   pub no-script : quoteAnswer book [] ≡ Of 43 7 0 7
   pub decisions-only : quoteAnswer book (bytes "-1\n-2\n") ≡ Of 43 7 0 7
   -- The opening gives 10 exactly if lent fewer numbers.
   pub one-fewer : openRefusal book 42 ≡ 10
   pub as-quoted : openRefusal book 43 ≡ 0
-  -- W of one clause, and of clauses of 3, 0, 1 and 2 literals.
+  -- W of one clause, of clauses of 3, 0, 1 and 2 literals, and the greatest W, of a formula within the limits.
   pub no-literals : worstOf 0 ≡ 0
   pub one-literal : worstOf 1 ≡ 0
   pub two-literals : worstOf 2 ≡ 1
@@ -65,6 +65,7 @@ pub record Points : Type 0 where
   pub together : worst mixed ≡ 4
   pub greatest : worst full ≡ 11928
   pub greatest-sound : sound full ≡ true
+  -- What is quoted where a clause has no literals, and where there is no clause.
   pub mixed-quoted : quoteAnswer (numbersOf mixed) (bytes "b 1\n") ≡ Of 44 4 1 8
   pub no-clauses : quoteAnswer (numbersOf (noClauses 4)) (bytes "b 1\n") ≡ Of 25 0 1 0
   -- Lines that count, and lines that do not.

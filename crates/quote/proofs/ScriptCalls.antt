@@ -1,4 +1,5 @@
--- The calls of a script: as many of them are backtracks as the script has lines of the form `b k`, and the script program makes just these calls.
+-- The calls of a script: as many of them are backtracks as the script has lines of the form `b k`, and the script program makes just these calls. And what
+-- the loop that counts these lines knows.
 use Prim.Native.Nat.{ℕ, zero, suc, _+_, _-_, _≤_, _<_}
 use mathlib.Core.Path.{_≡_, refl, sym, ap, _∙_}
 use mathlib.Core.Bool.{Bool, true, false, cond}
@@ -117,8 +118,7 @@ backs-all script count at r h =
     omega (arith, r .rest)
 
 -- a line from `at` to `end`
-module _ (script : List ℕ) (count at end : ℕ) (r : BacksBefore script count at) (h : at < length script)
-    (ends : end ≡ at + length (lineBytes (drop at script))) where
+module _ (script : List ℕ) (at end : ℕ) (h : at < length script) (ends : end ≡ at + length (lineBytes (drop at script))) where
   pub line-within : end ≤ length script
   line-within = omega (arith, until-within lineEnd script at (omega arith))
 
@@ -136,12 +136,13 @@ module _ (script : List ℕ) (count at end : ℕ) (r : BacksBefore script count 
       ∙ backs-first (lineBytes (drop at script)) (scriptLines (drop (suc (length (lineBytes (drop at script)))) (drop at script)))
       ∙ rw (line-is, drop-drop (suc (length (lineBytes (drop at script)))) at script, behind)
 
-  pub back-counted : true ≡ isBack (lineOf (take (end - at) (drop at script))) → BacksBefore script (count + 1) (end + 1)
-  back-counted e =
-      let is : backLines (drop at script) ≡ one true + backLines (drop (end + 1) script) = rw (← e) at counts in
-      record { few = omega (arith, r .few); rest = omega (arith, r .rest) }
+  module _ (count : ℕ) (r : BacksBefore script count at) where
+    pub back-counted : true ≡ isBack (lineOf (take (end - at) (drop at script))) → BacksBefore script (count + 1) (end + 1)
+    back-counted e =
+        let is : backLines (drop at script) ≡ one true + backLines (drop (end + 1) script) = rw (← e) at counts in
+        record { few = omega (arith, r .few); rest = omega (arith, r .rest) }
 
-  pub other-passed : false ≡ isBack (lineOf (take (end - at) (drop at script))) → BacksBefore script count (end + 1)
-  other-passed e =
-      let is : backLines (drop at script) ≡ one false + backLines (drop (end + 1) script) = rw (← e) at counts in
-      record { few = omega (arith, r .few); rest = omega (arith, r .rest) }
+    pub other-passed : false ≡ isBack (lineOf (take (end - at) (drop at script))) → BacksBefore script count (end + 1)
+    other-passed e =
+        let is : backLines (drop at script) ≡ one false + backLines (drop (end + 1) script) = rw (← e) at counts in
+        record { few = omega (arith, r .few); rest = omega (arith, r .rest) }

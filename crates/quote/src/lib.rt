@@ -5,7 +5,7 @@ ghost use Rattle.quote.specs.Quote.{isBack, backLines, quoteAnswer};
 use layout::ceiling::worst;
 
 // The most lines of the form `b k` in a script that is quoted for (`maxBackLines`).
-pub const MAX_BACK_LINES: usize = 1000000;
+const MAX_BACK_LINES: usize = 1000000;
 
 // What a quote tells: the session's length, W, how many lines of the form `b k` the script has, and the quoted ceiling; or the refusal number.
 pub enum Quote {

@@ -57,7 +57,7 @@ grown-gains {old} {trail} g d m = (
       (below (length old) (place trail m)),
 )
 
-pub visit-grows : (formula : Formula) (q c : ℕ) (old : List Entry) (run : Run) → Grown old (run .trail)
+visit-grows : (formula : Formula) (q c : ℕ) (old : List Entry) (run : Run) → Grown old (run .trail)
     → Grown old (visit formula q c run .trail)
 unfolding visit performAction counted withWatches withConflict onTrail
 visit-grows formula q c old run g = go (action (run .trail) (clauseOf formula c) (cellOf run c) q)

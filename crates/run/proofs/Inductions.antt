@@ -1,5 +1,5 @@
--- The induction principles of reading a list and of propagating, over any pair of predicates: one while it goes on, one where it has ended; and what
--- every visit keeps, and every step of the opening.
+-- The induction principles of reading a list and of propagating, over any pair of predicates: one while it goes on, one where it has ended; and
+-- that reading, propagating and the opening's one-literal clauses keep what each of their steps keeps.
 use Prim.Native.Nat.{ℕ, zero, suc, _+_, _≤_, _<_}
 use native.Mathlib.Omega.{arith}
 use mathlib.Core.Bool.{Bool, true, false, cond}

@@ -1,4 +1,5 @@
--- W bounds what a list of calls costs: the total is at most W for the opening and once more for each backtrack that the list asks for.
+-- W bounds what a list of calls costs: the total is at most W until the first backtrack, and once more for each
+-- backtrack that the list asks for.
 use Prim.Native.Nat.{ℕ, suc, _+_, _*_, _≤_}
 use native.Mathlib.Omega.{arith}
 use native.Mathlib.Nat.{add-mul, mul-le-mul-left, le-trans}
@@ -51,7 +52,7 @@ module _ (formula : Formula) (ok : sound formula ≡ true) (calls : List Call) w
       sum-within (reference formula calls .checks) (formula .clauses) (reference formula calls .backtracks + 1)
       (reference-valid formula ok calls .checks-length) clause-within
 
--- by the number k of clauses that are scanned: each of them leaves 3 of the two checks a literal, and costs at most 507
+-- w, by the number k of clauses of two or more literals: at most two checks for each literal, less 3 for each such clause, and at most 507 for each
 record Priced (w literals k : ℕ) : Type 0 where
   by-literals : w + 3 * k ≤ 2 * literals
   by-clauses : w ≤ 507 * k

@@ -1,5 +1,5 @@
 -- What statement 3 counts: the checks of a clause since the latest accepted backtrack of a list of calls, and their ceiling. And W, the sum of the
--- ceilings of all clauses.
+-- ceilings of all clauses, and how many backtracks a list of calls asks for.
 use Prim.Native.Nat.{ℕ, suc, _*_, _-_}
 use mathlib.Core.Bool.{cond}
 use mathlib.Core.List.{List, [], _∷_, map}

@@ -48,7 +48,7 @@ inside : (c : tie.After-line-end Inv-loop μ-loop) →
     at-loop .loop .at + c .line-end .result ≤ length (at-loop .before .before .args .script .now)
 inside c =
     let at-loop = c .before .before .before in
-    line-within _ _ _ _ (at-loop .loop .inv) (search needs) (ends c)
+    line-within _ _ _ (search needs) (ends c)
 
 add-end : tie.Need-add-end Inv-loop μ-loop
 add-end c =
@@ -88,8 +88,8 @@ loop-again c =
     let at-loop = here .before .before .before in
     let said = c .before .is-back .ensures in
     ⊎-elim
-    (λ w. rw (w .1) (back-counted _ _ _ _ (at-loop .loop .inv) (search needs) (ends here) (sym (w .0 .taken) ∙ said)))
-    (λ w. rw (w .1) (other-passed _ _ _ _ (at-loop .loop .inv) (search needs) (ends here) (sym (w .0 .left) ∙ said)))
+    (λ w. rw (w .1) (back-counted _ _ _ (search needs) (ends here) _ (at-loop .loop .inv) (sym (w .0 .taken) ∙ said)))
+    (λ w. rw (w .1) (other-passed _ _ _ (search needs) (ends here) _ (at-loop .loop .inv) (sym (w .0 .left) ∙ said)))
     (c .if1 .came)
 
 returns : tie.Need-returns Inv-loop μ-loop
