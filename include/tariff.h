@@ -54,6 +54,19 @@ static inline uint32_t tariff_filed(uint64_t answer) { return answer == 1; }
 #define TARIFF_QUOTED_BACK_LINES 2 /* how many lines `b k` the script has, accepted or not: `b`, one blank, 1 to 9 digits, nothing more */
 #define TARIFF_QUOTED 3
 
+/* A rate list has three numbers for each line: its literal, TARIFF_AMOUNT or TARIFF_THOUSANDTHS, and the amount in cents or the change. */
+#define TARIFF_LINE 3
+#define TARIFF_AMOUNT 0
+#define TARIFF_THOUSANDTHS 1
+
+/* The most of a rate list: lines, cents of an amount and thousandths of a change on either side of zero, cents of the base; and how far from zero the
+ * running amount may get. */
+#define TARIFF_LINES 200
+#define TARIFF_MOST_AMOUNT 10000000
+#define TARIFF_MOST_THOUSANDTHS 1000
+#define TARIFF_MOST_BASE 1000000000
+#define TARIFF_MOST_RUNNING 1000000000000
+
 /* A lent part is a pointer and how many it holds; no two lent parts of a call overlap, and nobody else writes them meanwhile. No pointer is
  * NULL, but for a part of length 0. A call writes only what its comment says, and where it refuses, nothing. What a session call is lent is examined first:
  * a book at fault is 11, a session at fault or too short 12. */
@@ -140,6 +153,14 @@ uint64_t tariff_chapters(const uint32_t *book, size_t book_length, const uint32_
  * Refuses: 11, then 17 where the script has more than 1,000,000 lines `b k`. */
 uint64_t tariff_quote(const uint32_t *book, size_t book_length, const uint8_t *script, size_t script_length,
                       uint32_t *out, size_t out_length, uint64_t *ceiling);
+
+/* The premium in cents from what the session has settled. From `base` on, the lines of the rate list apply in list order where their literal is true: a line
+ * adds its amount, or running amount x thousandths / 1000, rounded to the nearest cent, halves away from zero.
+ * Accepted: the number of lines whose feature is open. Writes the final amount to *amount.
+ * Refuses: 11, 12; 14 in contradiction; then 19 where the base or any line is outside its range, applied or not, `lines` is no whole number of
+ * lines or has over 200; then 20 where the running amount is beyond TARIFF_MOST_RUNNING after a line, on either side of zero. */
+uint64_t tariff_price(const uint32_t *book, size_t book_length, const uint32_t *session, size_t session_length,
+                      int64_t base, const int32_t *lines, size_t lines_length, int64_t *amount);
 
 #ifdef __cplusplus
 }

@@ -4,6 +4,7 @@ pub mod Lists
 pub mod Members
 pub mod Pigeonhole
 pub mod Same
+pub mod Signed
 pub mod Until
 pub mod Copies
 pub mod ForAll

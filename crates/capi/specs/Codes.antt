@@ -4,6 +4,7 @@ use mathlib.Core.Path.{_≡_}
 use mathlib.Core.Logic.{_⊎_}
 use mathlib.Core.Bool.{true, false}
 use mathlib.Core.List.{List, [], _∷_}
+use lib.IntN.{ℤ}
 use Rattle.base.specs.Lists.{copied}
 use Rattle.book.specs.declared.Reading.{Reading}
 use Rattle.book.specs.declared.Reading.the-variants as reading
@@ -23,6 +24,8 @@ use Rattle.chapters.specs.declared.Filing.{Filing}
 use Rattle.chapters.specs.declared.Filing.the-variants as filing
 use Rattle.quote.specs.declared.Quote.{Quote}
 use Rattle.quote.specs.declared.Quote.the-variants as quote
+use Rattle.rating.specs.declared.Premium.{Premium}
+use Rattle.rating.specs.declared.Premium.the-variants as premium
 
 abbrev pub conflictCode : ℕ → ℕ
 conflictCode clause = 4294967296 + clause
@@ -104,3 +107,12 @@ quoteAfter (quote.Refused number) buffer = buffer
 abbrev pub ceilingAfter : Quote → ℕ → ℕ
 ceilingAfter (quote.Of length worst lines ceiling) before = ceiling
 ceilingAfter (quote.Refused number) before = before
+
+-- a premium: how many lines are open, or the refusal; the amount goes to a place of its own, and a refusal leaves that as it is
+abbrev pub premiumCode : Premium → ℕ
+premiumCode (premium.Of amount unassigned) = unassigned
+premiumCode (premium.Refused number) = refusalCode number
+
+abbrev pub amountAfter : Premium → ℤ → ℤ
+amountAfter (premium.Of amount unassigned) before = amount
+amountAfter (premium.Refused number) before = before

@@ -1,4 +1,4 @@
-// The calls of book, session, chapters and quote for C: slices as a pointer and a length, answers as one number.
+// The calls of book, session, chapters, quote and rating for C: slices as a pointer and a length, answers as one number.
 ghost use mathlib.Core.Path.{_≡_};
 ghost use lib.ListN.{length, set};
 ghost use Rattle.book.specs.Reading.{readText};
@@ -7,7 +7,8 @@ ghost use Rattle.run.specs.Run.{trailBehind};
 ghost use Rattle.session.specs.Outcomes.{requiredAnswer, openAnswer, openNumbers, decideAnswer, decideNumbers, backtrackAnswer, backtrackNumbers, fixAnswer, fixNumbers, fixedAnswer, lookupAnswer, figuresAnswer, totalAnswer, copyAnswer, copyNumbers, checksOfRun};
 ghost use Rattle.chapters.specs.Chapters.{chapterAnswer, chapterNumbers};
 ghost use Rattle.quote.specs.Quote.{quoteAnswer};
-ghost use Rattle.capi.specs.Codes.{refusalCode, readingCode, answerCode, backCode, assignedCode, countCode, figuresCode, figuresAfter, sumCode, sumAfter, filingCode, quoteCode, quoteAfter, ceilingAfter};
+ghost use Rattle.rating.specs.Pricing.{premiumAnswer};
+ghost use Rattle.capi.specs.Codes.{refusalCode, readingCode, answerCode, backCode, assignedCode, countCode, figuresCode, figuresAfter, sumCode, sumAfter, filingCode, quoteCode, quoteAfter, ceilingAfter, premiumCode, amountAfter};
 
 fn refusal(number: u32) -> u64
     ensures { λ r. ⌜ r ≡ refusalCode number ⌝ }
@@ -255,5 +256,29 @@ pub extern "C" fn tariff_quote(
             3
         }
         quote::Quote::Refused(number) => refusal(number),
+    }
+}
+
+// Prices a settled session by a base in cents and a rate list. Accepted: the number of lines whose variable is open; the final amount goes to `amount`.
+#[no_mangle]
+pub extern "C" fn tariff_price(
+    book: &[u32],
+    session: &[u32],
+    base: i64,
+    lines: &[i32],
+    amount: &mut i64,
+) -> u64
+    ensures { λ r. ⌜ r ≡ premiumCode (premiumAnswer (now (book .entry)) (now (session .entry)) base (now (lines .entry))) ⌝ }
+    ensures { λ r. ⌜ now (amount .exit) ≡ amountAfter (premiumAnswer (now (book .entry)) (now (session .entry)) base (now (lines .entry))) (now (amount .entry)) ⌝ }
+{
+    match rating::price(book, session, base, lines) {
+        rating::Premium::Of {
+            amount: cents,
+            unassigned,
+        } => {
+            *amount = cents;
+            unassigned as u64
+        }
+        rating::Premium::Refused(number) => refusal(number),
     }
 }

@@ -7,8 +7,9 @@ use borrow.Author.Tests.{eqb-true}
 use lib.Dec.{eqb}
 use lib.ListN.{length}
 use Rattle.run.specs.Run.{Run, inConflict}
-use Rattle.session.specs.Outcomes.{Outcome, refused, accepted, outcome, propagatedAnswer, answerOf, countOf}
+use Rattle.session.specs.Outcomes.{Outcome, refused, accepted, outcome, propagatedAnswer, answerOf, shownOf, countOf}
 use Rattle.session.specs.declared.Answer.the-variants as answer
+use Rattle.session.specs.declared.Shown.the-variants as shown
 use Rattle.session.specs.declared.Count.the-variants as count
 
 -- an outcome is accepted where there is no refusal number, and refused by another number than 0
@@ -35,6 +36,15 @@ count-of n (accepted m) e = cc e
 pub count-refused : (n : ℕ) (o : Outcome ℕ) → count.Refused n ≡ countOf o → o ≡ refused n
 count-refused n (refused m) e = cc e
 count-refused n (accepted m) e = let z : _≡_ {A = ℕ} 0 1 = cc e in absurd (omega arith)
+
+-- figures tell their outcome, and the conflict clause
+pub shown-refused : (n : ℕ) (o : Outcome Run) → shown.Refused n ≡ shownOf o → o ≡ refused n
+shown-refused n (refused m) e = cc e
+shown-refused n (accepted run) e = let z : _≡_ {A = ℕ} 0 1 = cc e in absurd (omega arith)
+
+pub shown-conflict : (d b t c : ℕ) (o : Outcome Run) → shown.Of d b t c ≡ shownOf o → (run : Run) × (o ≡ accepted run) × (c ≡ run .conflict)
+shown-conflict d b t c (refused m) e = let z : _≡_ {A = ℕ} 0 1 = cc e in absurd (omega arith)
+shown-conflict d b t c (accepted run) e = (run, refl, cc e)
 
 -- the answer of an opening or a decision tells a refusal
 pub answer-refused : (before n : ℕ) (o : Outcome Run) → answerOf before o ≡ answer.Refused n → o ≡ refused n

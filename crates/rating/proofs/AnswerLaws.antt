@@ -1,0 +1,132 @@
+-- The range of the base, and the refusals in their order.
+use Prim.Native.Nat.{ℕ, _≤_, _<_}
+use mathlib.Core.Bool.{Bool, true, false, cond, _&&_, and-false}
+use mathlib.Core.List.{List}
+use mathlib.Core.Path.{_≡_, refl, sym, ap, subst, _∙_}
+use native.Mathlib.Omega.{arith}
+use borrow.Author.Tests.{ltb-true, leb-true, eqb-false, ne-eqb}
+use lib.Dec.{T, leb, eqb}
+use lib.IntN.{ℤ, pos, negsuc, natAbs}
+use lib.Signed.{ltZ}
+use Rattle.base.proofs.Bools.{and-parts}
+use Rattle.book.specs.Numbers.{wellFormed, variablesOf, formulaOf}
+use Rattle.run.specs.Run.{Run, inConflict}
+use Rattle.run.proofs.Conflicts.{quiet-out, out-quiet}
+use Rattle.layout.specs.Layout.{held}
+use Rattle.validation.specs.Validation.{passes, callRefusal, readRefusal}
+use Rattle.session.specs.Outcomes.{outcome, accepted, refused, figuresAnswer}
+use Rattle.session.specs.declared.Shown.the-variants as shown
+use Rattle.session.proofs.ToldLaws.{outcome-accepted, outcome-refused, shown-refused, shown-conflict}
+use Rattle.session.proofs.PassedLaws.{refused-first, none-first, own-refusal}
+use Rattle.rating.specs.Pricing.{maxBase, maxRunning, baseWithin, listWithin, linesOf, premiumOf, priceRefusal, premiumAnswer}
+use Rattle.rating.specs.declared.Premium.{Premium}
+use Rattle.rating.specs.declared.Premium.the-variants.{Refused}
+
+pub base-negative : (x : ℤ) → ltZ x (pos 0) ≡ true → false ≡ baseWithin x
+unfolding baseWithin
+base-negative (pos n) e = let h : n < 0 = ltb-true n 0 e in absurd (omega arith)
+base-negative (negsuc n) e = refl
+
+pub base-natural : (x : ℤ) → ltZ x (pos 0) ≡ false → leb (natAbs x) maxBase ≡ baseWithin x
+unfolding baseWithin
+base-natural (pos n) e = refl
+base-natural (negsuc n) e = absurd (subst T e tt)
+
+-- a base within its range is no running amount beyond its own
+pub base-small : (x : ℤ) → baseWithin x ≡ true → natAbs x ≤ maxRunning
+unfolding baseWithin
+base-small (pos n) e = omega (arith, leb-true n maxBase e)
+base-small (negsuc n) e = let z : _≡_ {A = ℕ} 0 1 = cc in absurd (omega arith)
+
+module _ (book session : List ℕ) where
+  abbrev run : Run
+  run = held (formulaOf book) session
+
+  -- what is refused before the base and the lines are looked at
+  abbrev settled : ℕ
+  settled = callRefusal book session (λ (r : Run). cond (inConflict r) 14 0)
+
+  pub figures-refuse : (n : ℕ) → shown.Refused n ≡ figuresAnswer book session → n ≡ settled
+  unfolding figuresAnswer
+  figures-refuse n e =
+      let told = outcome-refused (readRefusal book session) run n (shown-refused n _ e) in
+      refused-first book session (λ (r : Run). cond (inConflict r) 14 0) n (sym (told .0)) (λ z. eqb-false _ 0 (told .1) (told .0 ∙ z))
+
+  module _ (d b t c : ℕ) (e : shown.Of d b t c ≡ figuresAnswer book session) where
+    figures-tell : (0 ≡ readRefusal book session) × (c ≡ run .conflict)
+    unfolding figuresAnswer
+    figures-tell =
+        let told = shown-conflict d b t c _ e in
+        let of-run = outcome-accepted (readRefusal book session) run (told .0) (told .1) in
+        (of-run .0, told .2 ∙ sym (ap (λ (r : Run). r .conflict) (of-run .1)))
+
+    pub figures-conflict : (c ≡ 0 → ⊥) → 14 ≡ settled
+    figures-conflict h = sym (own-refusal book session (figures-tell .0) (λ (r : Run). cond (inConflict r) 14 0) ∙ rw (← figures-tell .1, ne-eqb c 0 h))
+
+    pub figures-quiet : c ≡ 0 → 0 ≡ settled
+    figures-quiet z = sym (own-refusal book session (figures-tell .0) (λ (r : Run). cond (inConflict r) 14 0) ∙ rw (quiet-out run (sym (figures-tell .1) ∙ z)))
+
+  module _ (base : ℤ) (numbers : List ℤ) where
+    abbrev right : Bool
+    right = baseWithin base && listWithin (variablesOf book) numbers
+
+    pub refused-before : (n : ℕ) → n ≡ settled → (n ≡ 0 → ⊥) → n ≡ priceRefusal book session base numbers
+    unfolding priceRefusal callRefusal
+    refused-before n e h = go (wellFormed book) (passes (formulaOf book) session) (inConflict run) e
+      where
+        go : (w p c : Bool) → n ≡ cond w (cond p (cond c 14 0) 12) 11 → n ≡ cond w (cond p (cond c 14 (cond right 0 19)) 12) 11
+        go true true true q = q
+        go true true false q = absurd (h q)
+        go true false c q = q
+        go false p c q = q
+
+    module _ (quiet : 0 ≡ settled) where
+      own : cond right 0 19 ≡ priceRefusal book session base numbers
+      unfolding priceRefusal callRefusal
+      own = go (wellFormed book) (passes (formulaOf book) session) (inConflict run) quiet
+        where
+          go : (w p c : Bool) → _≡_ {A = ℕ} 0 (cond w (cond p (cond c 14 0) 12) 11)
+              → _≡_ {A = ℕ} (cond right 0 19) (cond w (cond p (cond c 14 (cond right 0 19)) 12) 11)
+          go true true true q = absurd (omega arith)
+          go true true false q = refl
+          go true false c q = absurd (omega arith)
+          go false p c q = absurd (omega arith)
+
+      pub base-outside : false ≡ baseWithin base → 19 ≡ priceRefusal book session base numbers
+      base-outside e = rw (← e) at own
+
+      pub list-outside : false ≡ listWithin (variablesOf book) numbers → 19 ≡ priceRefusal book session base numbers
+      list-outside e = rw (← e, and-false (baseWithin base)) at own
+
+      pub none-outside : true ≡ baseWithin base → true ≡ listWithin (variablesOf book) numbers → 0 ≡ priceRefusal book session base numbers
+      none-outside b l = rw (← b, ← l) at own
+
+    -- what is known where nothing is refused before the first line
+    pub record Settled : Type 0 where
+      pub passed : readRefusal book session ≡ 0
+      pub out : run .conflict ≡ 0
+      pub base-right : baseWithin base ≡ true
+      pub list-right : listWithin (variablesOf book) numbers ≡ true
+
+    pub settled-price : 0 ≡ priceRefusal book session base numbers → Settled
+    unfolding priceRefusal
+    settled-price e =
+        let none = none-first book session (λ (r : Run). cond (inConflict r) 14 (cond right 0 19)) e in
+        let parts = go (inConflict run) right (e ∙ own-refusal book session none (λ (r : Run). cond (inConflict r) 14 (cond right 0 19))) in
+        let both = and-parts (baseWithin base) (listWithin (variablesOf book) numbers) (parts .1) in
+        record { passed = sym none; out = out-quiet run (parts .0); base-right = both .0; list-right = both .1 }
+      where
+        go : (c w : Bool) → _≡_ {A = ℕ} 0 (cond c 14 (cond w 0 19)) → (c ≡ false) × (w ≡ true)
+        go true w q = absurd (omega arith)
+        go false true q = (refl, refl)
+        go false false q = absurd (omega arith)
+
+    -- the answer, refused or not
+    pub answers-refused : (n : ℕ) → n ≡ priceRefusal book session base numbers → (n ≡ 0 → ⊥) → Refused n ≡ premiumAnswer book session base numbers
+    unfolding premiumAnswer
+    answers-refused n e h = rw (← e, ne-eqb n 0 h)
+
+    pub answers-premium : 0 ≡ priceRefusal book session base numbers → (p : Premium) → p ≡ premiumOf base (linesOf numbers) (accepted run)
+        → p ≡ premiumAnswer book session base numbers
+    unfolding premiumAnswer
+    answers-premium e p is = is ∙ rw (← e)

@@ -1,0 +1,5 @@
+-- The laws and theorems of `rating`.
+pub mod PricingLaws
+pub mod AnswerLaws
+pub mod Rounding
+pub mod Refusals

@@ -1,0 +1,2 @@
+-- The laws of src/lines.rt.
+pub mod Laws

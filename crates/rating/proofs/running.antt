@@ -1,0 +1,2 @@
+-- The laws of src/running.rt.
+pub mod Laws

@@ -1,0 +1,3 @@
+-- The laws of src/signed.rt.
+pub mod Sizes
+pub mod Machine

@@ -1,0 +1,3 @@
+-- The definitions of `rating`.
+pub mod Pricing
+pub mod Statement

@@ -1,0 +1,138 @@
+-- Request K1, premium in cents from a settled session: the rate list, how its lines change the running amount, and what a call that prices answers.
+use Prim.Native.Nat.{ℕ, zero, suc, _+_, _/_, _≤_}
+use mathlib.Core.Bool.{Bool, true, false, cond, not, _&&_}
+use mathlib.Core.List.{List, [], _∷_}
+use mathlib.Core.Path.{_≡_}
+use lib.Dec.{leb}
+use lib.ListN.{length}
+use lib.IntN.{ℤ, pos, negsuc, negℤ, natAbs, _+ℤ_, _-ℤ_, _*ℤ_}
+use Rattle.base.specs.Lists.{all, keep}
+use Rattle.book.specs.Formula.{literalWithin}
+use Rattle.book.specs.Numbers.{variablesOf, formulaOf}
+use Rattle.run.specs.Trail.{Entry, isTrue, isAssigned}
+use Rattle.run.specs.Run.{Run, inConflict}
+use Rattle.layout.specs.Layout.{held}
+use Rattle.validation.specs.Validation.{callRefusal}
+use Rattle.session.specs.Outcomes.{Outcome, refused, accepted, outcome}
+use Rattle.rating.specs.declared.Change.{Change}
+use Rattle.rating.specs.declared.Change.the-variants.{Amount, Thousandths}
+use Rattle.rating.specs.declared.RateLine.{RateLine}
+use Rattle.rating.specs.declared.Priced.{Priced}
+use Rattle.rating.specs.declared.Priced.the-variants.{At, Beyond}
+use Rattle.rating.specs.declared.Premium.{Premium}
+use Rattle.rating.specs.declared.Premium.the-variants.{Of, Refused}
+
+-- The limits: lines, cents of an amount, thousandths of a change, cents of the base, and cents of the running amount.
+abbrev pub maxLines : ℕ
+maxLines = 200
+
+abbrev pub maxAmount : ℕ
+maxAmount = 10000000
+
+abbrev pub maxThousandths : ℕ
+maxThousandths = 1000
+
+abbrev pub maxBase : ℕ
+maxBase = 1000000000
+
+abbrev pub maxRunning : ℕ
+maxRunning = 1000000000000
+
+-- The rate list as numbers, three for each line: its literal; 0 for an amount in cents or 1 for a change in thousandths; the amount or the change.
+-- A negative number is no literal; 0, which is none either, stands for it.
+unfoldable pub literalOf : ℤ → ℕ
+literalOf (pos n) = n
+literalOf (negsuc n) = 0
+
+unfoldable pub changeOf : ℤ → ℤ → Change
+changeOf (pos zero) value = Amount value
+changeOf (pos (suc n)) value = Thousandths value
+changeOf (negsuc n) value = Thousandths value
+
+unfoldable pub linesOf : List ℤ → List RateLine
+linesOf [] = []
+linesOf (literal ∷ []) = []
+linesOf (literal ∷ kind ∷ []) = []
+linesOf (literal ∷ kind ∷ value ∷ numbers) = record { literal = literalOf literal; change = changeOf kind value } ∷ linesOf numbers
+
+-- the numbers are whole lines, each of one of the two kinds
+unfoldable pub isKind : ℤ → Bool
+isKind (pos n) = leb n 1
+isKind (negsuc n) = false
+
+unfoldable pub areLines : List ℤ → Bool
+areLines [] = true
+areLines (literal ∷ []) = false
+areLines (literal ∷ kind ∷ []) = false
+areLines (literal ∷ kind ∷ value ∷ numbers) = isKind kind && areLines numbers
+
+-- The ranges, with literals of so many variables.
+unfoldable pub changeWithin : Change → Bool
+changeWithin (Amount cents) = leb (natAbs cents) maxAmount
+changeWithin (Thousandths part) = leb (natAbs part) maxThousandths
+
+unfoldable pub lineWithin : ℕ → RateLine → Bool
+lineWithin variables line = literalWithin variables (line .literal) && changeWithin (line .change)
+
+unfoldable pub listWithin : ℕ → List ℤ → Bool
+listWithin variables numbers = areLines numbers && leb (length (linesOf numbers)) maxLines && all (lineWithin variables) (linesOf numbers)
+
+unfoldable pub baseWithin : ℤ → Bool
+baseWithin (pos cents) = leb cents maxBase
+baseWithin (negsuc n) = false
+
+-- Thousandths of a cent as whole cents.
+unfoldable pub rounded : ℤ → ℤ
+rounded (pos n) = pos ((n + 500) / 1000)
+rounded (negsuc n) = negℤ (pos ((suc n + 500) / 1000))
+
+-- How far so many cents are from so many thousandths of a cent, in thousandths.
+abbrev pub distance : ℤ → ℤ → ℕ
+distance x cents = natAbs (x -ℤ pos 1000 *ℤ cents)
+
+-- What `rounded` gives and nothing else is (`rounded-nearest`, `rounded-only`): the nearest cents, halves away from zero. None are nearer, and none that are as
+-- near are farther from zero.
+pub record Nearest (x cents : ℤ) : Type 0 where
+  pub none-nearer : (other : ℤ) → distance x cents ≤ distance x other
+  pub halves : (other : ℤ) → distance x other ≡ distance x cents → natAbs other ≤ natAbs cents
+
+-- the running amount after a line that applies
+unfoldable pub applied : ℤ → Change → ℤ
+applied running (Amount cents) = running +ℤ cents
+applied running (Thousandths part) = running +ℤ rounded (running *ℤ part)
+
+-- where it is beyond the limit after that line, there is no amount any more
+unfoldable pub limited : ℤ → Priced
+limited running = cond (leb (natAbs running) maxRunning) (At running) Beyond
+
+-- Lines apply in list order where their literal is true.
+unfoldable pub stepped : (ℕ → Bool) → Priced → RateLine → Priced
+stepped holds Beyond line = Beyond
+stepped holds (At running) line = cond (holds (line .literal)) (limited (applied running (line .change))) (At running)
+
+unfoldable pub pricedBy : (ℕ → Bool) → Priced → List RateLine → Priced
+pricedBy holds state [] = state
+pricedBy holds state (line ∷ lines) = pricedBy holds (stepped holds state line) lines
+
+-- The lines whose variable (the paper's feature) is open, each line by itself.
+unfoldable pub openLines : List Entry → List RateLine → ℕ
+openLines trail lines = length (keep (λ (line : RateLine). not (isAssigned trail (line .literal))) lines)
+
+-- The answer: the refusal number; 20 where the running amount went beyond its limit; else the final amount and the number of open lines.
+abbrev pub offered : ℕ → Priced → Premium
+offered unassigned (At amount) = Of amount unassigned
+offered unassigned Beyond = Refused 20
+
+abbrev pub premiumOf : ℤ → List RateLine → Outcome Run → Premium
+premiumOf start lines (refused number) = Refused number
+premiumOf start lines (accepted run) = offered (openLines (run .trail) lines) (pricedBy (isTrue (run .trail)) (At start) lines)
+
+-- On a book, of a session, of a base and of a rate list, all as lent numbers: 11, 12, then 14 in conflict, then 19 for the base and the whole list.
+module _ (book session : List ℕ) (base : ℤ) (numbers : List ℤ) where
+  unfoldable pub priceRefusal : ℕ
+  priceRefusal =
+      callRefusal book session
+      (λ (run : Run). cond (inConflict run) 14 (cond (baseWithin base && listWithin (variablesOf book) numbers) 0 19))
+
+  unfoldable pub premiumAnswer : Premium
+  premiumAnswer = premiumOf base (linesOf numbers) (outcome priceRefusal (held (formulaOf book) session))

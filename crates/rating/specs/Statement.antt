@@ -1,0 +1,73 @@
+-- What the theorems of `rating` say of an answer: how its amount is bounded, where 20 arises, and which refusal comes when.
+use Prim.Native.Nat.{ℕ, _+_, _≤_, _<_}
+use mathlib.Core.Bool.{Bool, true, false, _&&_}
+use mathlib.Core.List.{List, _∷_, _++_}
+use mathlib.Core.Logic.{_↔_, _⊎_}
+use mathlib.Core.Path.{_≡_}
+use lib.IntN.{ℤ, natAbs}
+use lib.ListN.{length, take}
+use Rattle.book.specs.Numbers.{wellFormed, variablesOf, formulaOf}
+use Rattle.run.specs.Trail.{isTrue}
+use Rattle.run.specs.Run.{Run, inConflict}
+use Rattle.layout.specs.Layout.{held}
+use Rattle.validation.specs.Validation.{passes}
+use Rattle.rating.specs.Pricing.{maxLines, maxRunning, linesOf, baseWithin, listWithin, applied, pricedBy, premiumAnswer}
+use Rattle.rating.specs.declared.Priced.{Priced}
+use Rattle.rating.specs.declared.Priced.the-variants.{At}
+use Rattle.rating.specs.declared.RateLine.{RateLine}
+use Rattle.rating.specs.declared.Premium.{Premium}
+use Rattle.rating.specs.declared.Premium.the-variants.{Of, Refused}
+
+-- Among the lines there is one that applies and after which the running amount is beyond its limit; before it there was an amount.
+pub record GoesBeyond (holds : ℕ → Bool) (start : ℤ) (lines : List RateLine) : Type 0 where
+  pub front : List RateLine
+  pub line : RateLine
+  pub back : List RateLine
+  pub running : ℤ
+  pub list : lines ≡ front ++ (line ∷ back)
+  pub before : pricedBy holds (At start) front ≡ At running
+  pub applies : holds (line .literal) ≡ true
+  pub beyond : maxRunning < natAbs (applied running (line .change))
+
+-- so many open lines more
+abbrev pub withOpen : ℕ → Premium → Premium
+withOpen n (Of amount unassigned) = Of amount (n + unassigned)
+withOpen n (Refused number) = Refused number
+
+module _ (book session : List ℕ) (base : ℤ) (numbers : List ℤ) where
+  abbrev run : Run
+  run = held (formulaOf book) session
+
+  abbrev lines : List RateLine
+  lines = linesOf numbers
+
+  -- what the first j lines come to
+  abbrev pub after : ℕ → Priced
+  after j = pricedBy (isTrue (run .trail)) (At base) (take j lines)
+
+  -- An amount and a number of open lines that are answered.
+  pub record Bounded (amount : ℤ) (n : ℕ) : Type 0 where
+    pub every-line : (j : ℕ) → (running : ℤ) × (after j ≡ At running) × (natAbs running ≤ maxRunning)
+    pub last : after (length lines) ≡ At amount
+    pub amount-within : natAbs amount ≤ maxRunning
+    pub few-open : n ≤ length lines
+    pub few-lines : length lines ≤ maxLines
+
+  abbrev answer : Premium
+  answer = premiumAnswer book session base numbers
+
+  -- the book is of the right form and the session passes; base and list are within their ranges
+  abbrev Passes : Type 0
+  Passes = (wellFormed book ≡ true) × (passes (formulaOf book) session ≡ true)
+
+  abbrev within : Bool
+  within = baseWithin base && listWithin (variablesOf book) numbers
+
+  -- Each refusal number exactly where it is due.
+  pub record RefusedWhere : Type 0 where
+    pub book-fault : (answer ≡ Refused 11) ↔ (wellFormed book ≡ false)
+    pub session-fault : (answer ≡ Refused 12) ↔ ((wellFormed book ≡ true) × (passes (formulaOf book) session ≡ false))
+    pub conflict : (answer ≡ Refused 14) ↔ (Passes × (inConflict run ≡ true))
+    pub range : (answer ≡ Refused 19) ↔ (Passes × (inConflict run ≡ false) × (within ≡ false))
+    pub limit : (answer ≡ Refused 20) ↔ (Passes × (inConflict run ≡ false) × (within ≡ true) × GoesBeyond (isTrue (run .trail)) base lines)
+    pub no-other : (n : ℕ) → answer ≡ Refused n → (n ≡ 11) ⊎ (n ≡ 12) ⊎ (n ≡ 14) ⊎ (n ≡ 19) ⊎ (n ≡ 20)

@@ -1,0 +1,118 @@
+// Premium in cents (request K1): a rate list is applied to what a session has settled.
+mod lines;
+mod running;
+mod signed;
+
+ghost use mathlib.Core.Path.{_≡_};
+ghost use mathlib.Core.Bool.{true, cond};
+ghost use Prim.Native.Nat.{_≤_};
+ghost use lib.IntN.{natAbs};
+ghost use Rattle.book.specs.Numbers.{variablesOf, formulaOf};
+ghost use Rattle.run.specs.Run.{Run, inConflict};
+ghost use Rattle.layout.specs.Layout.{held};
+ghost use Rattle.validation.specs.Validation.{callRefusal, readRefusal};
+ghost use Rattle.session.specs.Outcomes.{accepted};
+ghost use Rattle.rating.specs.Pricing.{maxRunning, baseWithin, listWithin, linesOf, priceRefusal, premiumOf, premiumAnswer};
+use lines::list_within;
+use running::apply_all;
+use running::open_lines;
+use signed::size_of;
+
+// The largest base (`maxBase`).
+const MAX_BASE: u64 = 1000000000;
+
+// What a line does to the running amount: it adds an amount in cents, or a change in thousandths of it.
+pub enum Change {
+    Amount(i32),
+    Thousandths(i32),
+}
+
+// A line of a rate list: where its literal is true, it applies.
+pub struct RateLine {
+    pub literal: u32,
+    pub change: Change,
+}
+
+// The running amount in cents, or that it went beyond its limit after a line.
+pub enum Priced {
+    At(i64),
+    Beyond,
+}
+
+// What a call that prices answers: the final amount in cents and the number of lines whose variable is open, or the refusal number.
+pub enum Premium {
+    Of { amount: i64, unassigned: u32 },
+    Refused(u32),
+}
+
+// The refusals that come before the lines: 11, 12, and 14 in conflict; 0 where the session is settled.
+fn settled_refusal(book: &[u32], session: &[u32]) -> u32
+    ensures { λ r. ⌜ r ≡ callRefusal (now (book .entry)) (now (session .entry)) (λ (run : Run). cond (inConflict run) 14 0) ⌝ }
+{
+    match session::figures(book, session) {
+        session::Shown::Refused(number) => number,
+        session::Shown::Of {
+            decisions: _,
+            backtracks: _,
+            trail: _,
+            conflict,
+        } => {
+            if conflict != 0 {
+                return 14;
+            }
+            0
+        }
+    }
+}
+
+fn base_within(base: i64) -> bool
+    ensures { λ r. ⌜ r ≡ baseWithin base ⌝ }
+{
+    if base < 0 {
+        return false;
+    }
+    size_of(base) <= MAX_BASE
+}
+
+// The refusal number of a call that prices, or 0.
+fn price_refusal(book: &[u32], session: &[u32], base: i64, lines: &[i32]) -> u32
+    ensures { λ r. ⌜ r ≡ priceRefusal (now (book .entry)) (now (session .entry)) base (now (lines .entry)) ⌝ }
+{
+    let refused = settled_refusal(book, session);
+    if refused != 0 {
+        return refused;
+    }
+    if !base_within(base) {
+        return 19;
+    }
+    if !list_within(book::variables(book), lines) {
+        return 19;
+    }
+    0
+}
+
+// The amount after all lines, from a start on, and the number of open lines.
+fn premium_of(book: &[u32], session: &[u32], start: i64, lines: &[i32]) -> Premium
+    requires { ⌜ (readRefusal (now book) (now session) ≡ 0) × (listWithin (variablesOf (now book)) (now lines) ≡ true) ⌝ }
+    requires { ⌜ natAbs start ≤ maxRunning ⌝ }
+    ensures { λ r. ⌜ r ≡ premiumOf start (linesOf (now (lines .entry))) (accepted (held (formulaOf (now (book .entry))) (now (session .entry)))) ⌝ }
+{
+    match apply_all(book, session, start, lines) {
+        Priced::At(amount) => Premium::Of {
+            amount,
+            unassigned: open_lines(book, session, lines),
+        },
+        Priced::Beyond => Premium::Refused(20),
+    }
+}
+
+// Prices a settled session on a book, by a base in cents and a rate list, three numbers a line: literal, 0 or 1, amount or thousandths.
+pub fn price(book: &[u32], session: &[u32], base: i64, lines: &[i32]) -> Premium
+    ensures { λ r. ⌜ r ≡ premiumAnswer (now (book .entry)) (now (session .entry)) base (now (lines .entry)) ⌝ }
+{
+    let refused = price_refusal(book, session, base, lines);
+    if refused != 0 {
+        return Premium::Refused(refused);
+    }
+    premium_of(book, session, base, lines)
+}
