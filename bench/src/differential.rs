@@ -7,6 +7,7 @@ use crate::engine::Engine;
 use crate::places::{places, CONFLICT, DECISIONS, FIXED, LENGTH};
 use crate::plan::{PLAIN, PROVED};
 use crate::random::Random;
+use crate::rates::{self, Rates};
 use crate::script::{session_length, Call, Workload};
 use crate::steps;
 use std::rc::Rc;
@@ -20,13 +21,14 @@ const REFUSALS: usize = 23;
 /// The calls of a list.
 const LIST: usize = 24;
 
-/// How many calls were compared, by what they answered, in how many states every variable was looked up, how many steps left the
-/// numbers of the call, how many states CaDiCaL confirmed afresh, and how many it answered alike when kept, or by what it had learnt.
+/// How many calls were compared, by what they answered, how many of them gave a price, in how many states every variable was looked up, how many
+/// steps left the numbers of the call, how many states CaDiCaL confirmed afresh, and how many it answered alike when kept, or by what it had learnt.
 #[derive(Default)]
 pub struct Compared {
     pub accepted: usize,
     pub conflicts: usize,
     pub refused: [usize; REFUSALS],
+    pub priced: usize,
     pub looked_up: usize,
     pub steps: usize,
     pub confirmed: usize,
@@ -93,6 +95,8 @@ impl Compared {
         });
         self.chapters(random, book, session);
         self.any_quote(random, book);
+        let rates = rates::any(random, book, session);
+        self.price(book, session, &rates);
     }
 
     /// The sums by chapter: from one chapter fewer than there are clauses to two more, now and then up to 32 instead of 31, and 31 to 34 sums.
@@ -133,6 +137,17 @@ impl Compared {
             self.quote(book, &script, 3);
             self.quote(&[], &script, 3);
         }
+    }
+
+    /// The price by a rate list; the amount, as its bits, is the one number.
+    fn price(&mut self, book: &[u32], session: &[u32], rates: &Rates) {
+        let answer = self.both(&mut vec![7; 2], |engine, halves| {
+            let mut amount = 7;
+            let answer = engine.price(book, session, rates.base, &rates.lines, &mut amount);
+            halve(&[amount as u64], halves);
+            answer
+        });
+        self.priced += usize::from(matches!(answer, Answer::Accepted(_)));
     }
 
     /// A lookup of every variable, and of the numbers before and behind them.
@@ -211,6 +226,8 @@ impl Compared {
         }
         self.both(&mut Vec::new(), |engine, _| engine.required_length(&broken));
         self.any_quote(random, &broken);
+        let rates = rates::any(random, book, session);
+        self.price(&broken, session, &rates);
         self.both(&mut session.to_vec(), |engine, session| engine.open(&broken, session));
         self.random_calls(random, &broken, session);
     }

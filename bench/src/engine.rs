@@ -16,4 +16,5 @@ pub trait Engine {
     fn total(&self, book: &[u32], session: &[u32], sum: &mut u64) -> Answer;
     fn chapters(&self, book: &[u32], session: &[u32], chapters: &[u32], totals: &mut [u64]) -> Answer;
     fn quote(&self, book: &[u32], script: &[u8], out: &mut [u32], ceiling: &mut u64) -> Answer;
+    fn price(&self, book: &[u32], session: &[u32], base: i64, lines: &[i32], amount: &mut i64) -> Answer;
 }

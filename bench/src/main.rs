@@ -16,6 +16,7 @@ mod plot;
 mod probe;
 mod proved;
 mod random;
+mod rates;
 mod report;
 mod scans;
 mod script;

@@ -1,4 +1,5 @@
 //! The plan: every measured task, in groups whose tasks alternate; the timed run and callgrind's run share it.
+use crate::answer::Answer;
 use crate::books::{self, Size, LIMITS, TENTH};
 use crate::cadical;
 use crate::engine::Engine;
@@ -6,6 +7,7 @@ use crate::plain::Plain;
 use crate::probe::Probe;
 use crate::proved::Proved;
 use crate::random::Random;
+use crate::rates::{self, Rates, LINES};
 use crate::scans;
 use crate::script::{session_length, Call, Workload};
 use crate::stages;
@@ -72,6 +74,8 @@ pub struct Plan {
     pub growth: Vec<Series>,
     /// Each: a decision that scans in full, its step without examination; in the whole plan its scans in plain Rust, too, wrapped and running.
     pub scans: Vec<Group>,
+    /// Each: price proved, price plain, lookup proved, lookup plain, all in one session.
+    pub prices: Vec<Group>,
 }
 
 pub fn task(work: impl Fn(&mut dyn Probe) + 'static) -> Task {
@@ -185,15 +189,43 @@ fn refused(engine: &'static dyn Engine, workload: &Rc<Workload>, stage: usize) -
     })
 }
 
-fn form(engine: &'static dyn Engine, workload: &Rc<Workload>) -> Task {
-    let workload = workload.clone();
+/// A call, made twenty times.
+fn repeated(call: impl Fn() + 'static) -> Task {
     task(move |probe| {
         for _ in 0..20 {
-            probe.call(&mut || {
-                black_box(engine.required_length(&workload.book));
-            });
+            probe.call(&mut || call());
         }
     })
+}
+
+fn form(engine: &'static dyn Engine, workload: &Rc<Workload>) -> Task {
+    let workload = workload.clone();
+    repeated(move || {
+        black_box(engine.required_length(&workload.book));
+    })
+}
+
+/// Prices by the measured rate list, and lookups in the same session.
+fn price_group(workload: &Rc<Workload>) -> Group {
+    let given = Rc::new(rates::measured(workload));
+    let price = |engine: &'static dyn Engine| {
+        let (workload, given) = (workload.clone(), given.clone());
+        repeated(move || {
+            let Rates { base, lines } = &given.rates;
+            let answer = engine.price(&workload.book, &given.session, *base, lines, black_box(&mut 0));
+            assert!(matches!(answer, Answer::Accepted(_)), "{answer:?}");
+        })
+    };
+    let lookup = |engine: &'static dyn Engine| {
+        let (workload, given) = (workload.clone(), given.clone());
+        repeated(move || {
+            black_box(engine.lookup(&workload.book, &given.session, 1));
+        })
+    };
+    Group {
+        name: format!("{}, {} of {LINES} lines apply", workload.name, given.applied),
+        tasks: vec![price(PROVED), price(PLAIN), lookup(PROVED), lookup(PLAIN)],
+    }
 }
 
 /// The workloads of the comparison.
@@ -316,6 +348,7 @@ impl Plan {
             stages: [&workloads[0], &workloads[2]].map(stage_group).into(),
             growth: growth(),
             scans: scans::groups(),
+            prices: workloads[..2].iter().map(price_group).collect(),
         }
     }
 
@@ -329,5 +362,6 @@ impl Plan {
             .chain(self.stages.iter_mut())
             .chain(points.map(|(_, group)| group))
             .chain(self.scans.iter_mut())
+            .chain(self.prices.iter_mut())
     }
 }

@@ -42,6 +42,16 @@ extern "C" {
         k: usize,
         ceiling: *mut u64,
     ) -> u64;
+    fn tariff_price(
+        book: *const u32,
+        n: usize,
+        session: *const u32,
+        m: usize,
+        base: i64,
+        lines: *const i32,
+        k: usize,
+        amount: *mut i64,
+    ) -> u64;
 }
 
 pub struct Proved;
@@ -155,6 +165,21 @@ impl Engine for Proved {
                 out.as_mut_ptr(),
                 out.len(),
                 ceiling,
+            )
+        })
+    }
+
+    fn price(&self, book: &[u32], session: &[u32], base: i64, lines: &[i32], amount: &mut i64) -> Answer {
+        Answer::from_code(unsafe {
+            tariff_price(
+                book.as_ptr(),
+                book.len(),
+                session.as_ptr(),
+                session.len(),
+                base,
+                lines.as_ptr(),
+                lines.len(),
+                amount,
             )
         })
     }

@@ -4,6 +4,7 @@ use crate::differential::Compared;
 use crate::goals::{Goal, Goals, MARGIN};
 use crate::measure::{ROUNDS, TIME};
 use crate::plan::{Group, Plan, Series, Task, ASKED, DECISIONS, GROWTH};
+use crate::rates::LINES;
 use crate::scans::TIMES;
 use crate::stages::STAGES;
 use crate::text::{grouped, microseconds, percent, ratio, table};
@@ -284,12 +285,31 @@ fn long_clauses(groups: &[Group]) -> String {
     )
 }
 
+/// A price by the longest list, and a lookup in the same session, which does little but validate it.
+fn prices(groups: &[Group]) -> String {
+    let lookups = |task: usize| {
+        let ratios = groups
+            .iter()
+            .map(|group| group.tasks[task].instructions / group.tasks[task + 2].instructions);
+        range(ratios, |ratio| format!("{ratio:.2}"))
+    };
+    format!(
+        "The session is that state of the script without conflict that has the longest trail. A proved price takes {} times the instructions of a lookup\n\
+         in the same session, which does little but validate it; a plain one {} times. No goal was set.\n\n{}\n{}",
+        lookups(0),
+        lookups(1),
+        tasks_table(&format!("a price of {LINES} lines"), PROVED_PLAIN, groups, [0, 1]),
+        tasks_table("a lookup", PROVED_PLAIN, groups, [2, 3]),
+    )
+}
+
 fn equal(compared: &Compared) -> String {
     let numbers = (1..compared.refused.len()).filter(|&number| compared.refused[number] > 0);
     let named: Vec<String> = numbers.map(|number| number.to_string()).collect();
     format!(
         "Both engines gave equal answers and left equal numbers in {} calls: {} accepted, {} in conflict, {} refused (numbers {}).\n\
-         These are all workloads and texts above, random calls between them, small books, damaged sessions, books and texts, and quotes for scripts of good and of strange lines.\n\
+         These are all workloads and texts above, random calls between them, small books, damaged sessions, books and texts, quotes for scripts of good and of strange lines,\n\
+         and prices by rate lists in range and nearly so, of which {} gave an amount.\n\
          In {} states every feature was looked up, with its level.\n\
          The engine's steps without examination left the same numbers as the call in {} steps: all accepted decisions and backtracks of the scripts, and all accepted fixings.\n\
          In {} of the states CaDiCaL, asked afresh, propagated the same values, or a conflict where the session has one.\n\
@@ -299,6 +319,7 @@ fn equal(compared: &Compared) -> String {
         grouped(compared.conflicts as f64),
         grouped(compared.refusals() as f64),
         named.join(", "),
+        grouped(compared.priced as f64),
         grouped(compared.looked_up as f64),
         grouped(compared.steps as f64),
         grouped(compared.confirmed as f64),
@@ -399,6 +420,10 @@ pub fn report(plan: &Plan, goals: &Goals, compared: &Compared) -> String {
         ),
     );
     section("f. The scan of long clauses", long_clauses(&plan.scans));
+    section(
+        &format!("g. A price of {LINES} lines at the limits"),
+        prices(&plan.prices),
+    );
     section("Equal results", equal(compared));
     text
 }

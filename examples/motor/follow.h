@@ -2,6 +2,7 @@
 #ifndef FOLLOW_H
 #define FOLLOW_H
 #include <tariff.h>
+#include <stdarg.h>
 #include <stdio.h>
 #include <stdlib.h>
 #include <string.h>
@@ -13,12 +14,19 @@ static uint32_t session[TARIFF_SESSION];
 static size_t needed;
 static uint32_t choices;                     /* in force */
 static uint32_t chosen[TARIFF_FEATURES + 1]; /* the feature of each of them, from choice 1 on */
+static const char *feature_names[TARIFF_FEATURES + 1];
 
-/* What the program does where the opening or a choice contradicts a rule; nothing, unless main sets it. */
-static void (*at_contradiction)(uint32_t rule);
+/* What the program does with the answer of the opening and of each choice and take-back that is not refused; nothing, unless main sets it. */
+static void (*after_step)(uint64_t answer);
 
-static void fail(const char *what) {
-    fprintf(stderr, "%s: %s\n", program, what);
+static void fail(const char *format, ...) {
+    va_list words;
+    va_start(words, format);
+    fflush(stdout);
+    fprintf(stderr, "%s: ", program);
+    vfprintf(stderr, format, words);
+    va_end(words);
+    fprintf(stderr, "\n");
     exit(1);
 }
 
@@ -38,6 +46,25 @@ static inline void say_count(uint64_t count, const char *word) {
     printf(" %s%s", word, count == 1 ? "" : "s");
 }
 
+/* All bytes of a file, with a 0 behind them; a message calls it by the word. */
+static inline char *read_bytes(const char *path, const char *word, size_t *length) {
+    char *bytes = NULL;
+    size_t room = 0;
+    FILE *file = fopen(path, "rb");
+    if (!file) fail("no such %s", word);
+    *length = 0;
+    do {
+        room = 2 * room + 4096;
+        bytes = (char *)realloc(bytes, room);
+        if (!bytes) fail("no memory for the %s", word);
+        *length += fread(bytes + *length, 1, room - *length, file);
+    } while (*length == room);
+    if (ferror(file)) fail("the %s cannot be read", word);
+    fclose(file);
+    bytes[*length] = '\0';
+    return bytes;
+}
+
 /* A byte 0, which only a comment of an accepted tariff can hold, would end the text; it is replaced. */
 static void read_tariff(const char *path) {
     FILE *file = fopen(path, "rb");
@@ -49,13 +76,35 @@ static void read_tariff(const char *path) {
         if (text[i] == '\0') text[i] = '?';
 }
 
-static void tell_contradiction(uint64_t answer) {
-    if (tariff_kind(answer) == TARIFF_CONFLICT && at_contradiction) at_contradiction(tariff_number(answer));
+/* A line `c 54 marten bite` of the tariff names a feature. The text is cut into its lines. */
+static inline void read_names(void) {
+    for (char *line = strtok(text, "\r\n"); line; line = strtok(NULL, "\r\n")) {
+        unsigned feature;
+        int start = 0;
+        if (sscanf(line, "c %9u %n", &feature, &start) == 1 && feature <= TARIFF_FEATURES) feature_names[feature] = line + start;
+    }
+}
+
+static inline const char *name_of(uint32_t feature) {
+    return feature_names[feature] ? feature_names[feature] : "unnamed";
+}
+
+static inline uint64_t lookup(uint32_t feature) {
+    return tariff_lookup(book, TARIFF_BOOK, session, needed, feature);
+}
+
+/* Says which choice in force, or the opening, and answers how many bytes that took. */
+static inline int say_level(uint32_t level) {
+    return level == 0 ? printf("the opening") : printf("choice %u, %s", level, name_of(chosen[level]));
+}
+
+static void step_made(uint64_t answer) {
+    if (after_step) after_step(answer);
 }
 
 static void open_in(size_t numbers) {
     needed = numbers;
-    tell_contradiction(tariff_open(book, TARIFF_BOOK, session, needed));
+    step_made(tariff_open(book, TARIFF_BOOK, session, needed));
 }
 
 static inline void open_session(void) { open_in(tariff_number(tariff_required_length(book, TARIFF_BOOK))); }
@@ -65,11 +114,14 @@ static void choose(uint32_t feature, uint32_t literal) {
     uint64_t answer = tariff_decide(book, TARIFF_BOOK, session, needed, literal);
     if (tariff_kind(answer) == TARIFF_REFUSED) return;
     chosen[++choices] = feature;
-    tell_contradiction(answer);
+    step_made(answer);
 }
 
 static void take_back(uint32_t k) {
-    if (tariff_kind(tariff_backtrack(book, TARIFF_BOOK, session, needed, k)) == TARIFF_ACCEPTED) choices -= k;
+    uint64_t answer = tariff_backtrack(book, TARIFF_BOOK, session, needed, k);
+    if (tariff_kind(answer) == TARIFF_REFUSED) return;
+    choices -= k;
+    step_made(answer);
 }
 
 /* A number is one to nine digits, and nothing else. */

@@ -1,28 +1,14 @@
 /* Says what the session of a script on a tariff needs and costs at most, before it is opened; then makes the session and says what it cost. */
 #include "follow.h"
 
-static uint8_t *script;
+static char *script;
 static size_t length; /* how many bytes it has */
 static uint32_t quoted[TARIFF_QUOTED];
 static uint64_t ceiling;
 
-static void read_script(const char *path) {
-    FILE *file = fopen(path, "rb");
-    if (!file) fail("no such script");
-    size_t room = 0;
-    do {
-        room = 2 * room + 4096;
-        script = (uint8_t *)realloc(script, room);
-        if (!script) fail("no memory for the script");
-        length += fread(script + length, 1, room - length, file);
-    } while (length == room);
-    if (ferror(file)) fail("the script cannot be read");
-    fclose(file);
-}
-
 /* The tariff was accepted, so that its book is not at fault: only a script of too many lines is refused. */
 static void quote(void) {
-    uint64_t answer = tariff_quote(book, TARIFF_BOOK, script, length, quoted, TARIFF_QUOTED, &ceiling);
+    uint64_t answer = tariff_quote(book, TARIFF_BOOK, (const uint8_t *)script, length, quoted, TARIFF_QUOTED, &ceiling);
     if (tariff_kind(answer) != TARIFF_ACCEPTED) fail("the script has more than 1,000,000 lines of take-backs");
 }
 
@@ -62,7 +48,7 @@ int main(int count, char **words) {
     program = "quote";
     if (count != 3) fail("usage: quote TARIFF SCRIPT");
     read_tariff(words[1]);
-    read_script(words[2]);
+    script = read_bytes(words[2], "script", &length);
     quote();
     say_quote();
     make_session();

@@ -5,16 +5,6 @@
 /* The book's numbers: how many features, rules and literals it has, then where the literals of each rule start and the last end, then the literals. */
 enum { FEATURES, RULES, LITERALS, STARTS };
 
-static const char *names[TARIFF_FEATURES + 1];
-
-static const char *name_of(uint32_t feature) {
-    return names[feature] ? names[feature] : "unnamed";
-}
-
-static uint64_t lookup(uint32_t feature) {
-    return tariff_lookup(book, TARIFF_BOOK, session, needed, feature);
-}
-
 static const char *state_of(uint64_t answer) {
     switch (tariff_state(answer)) {
     case TARIFF_IS_WANTED: return "wanted";
@@ -24,28 +14,27 @@ static const char *state_of(uint64_t answer) {
     }
 }
 
-static void say_level(uint32_t level) {
-    if (level == 0) printf("the opening\n");
-    else printf("choice %u, %s\n", level, name_of(chosen[level]));
-}
-
 /* Says how a feature is settled and since when, by the answer of its lookup. */
 static void say_feature(uint32_t feature, uint64_t answer) {
     uint32_t level = tariff_level(answer);
     printf("  %u %s: %s", feature, name_of(feature), state_of(answer));
     if (feature == chosen[level]) {
-        printf(", choice %u\n", level);
+        printf(", choice %u", level);
     } else {
         printf(" since ");
         say_level(level);
     }
+    printf("\n");
 }
 
-/* Each literal of the rule is false: its features show which choices do not go together. */
-static void say_contradiction(uint32_t rule) {
+/* Where a step contradicts a rule, each literal of it is false: its features show which choices do not go together. */
+static void say_contradiction(uint64_t answer) {
     const uint32_t *starts = book + STARTS, *literals = starts + book[RULES] + 1;
+    uint32_t rule = tariff_number(answer);
+    if (tariff_kind(answer) != TARIFF_CONFLICT) return;
     printf("contradiction of rule %u at ", rule);
     say_level(choices);
+    printf("\n");
     for (uint32_t i = starts[rule - 1]; i < starts[rule]; i++)
         say_feature(literals[i] / 2, lookup(literals[i] / 2));
 }
@@ -68,18 +57,9 @@ static void say_settled(void) {
     printf("  %u features are open\n", open);
 }
 
-/* A line `c 54 marten bite` of the tariff names a feature. */
-static void read_names(void) {
-    for (char *line = strtok(text, "\r\n"); line; line = strtok(NULL, "\r\n")) {
-        unsigned feature;
-        int start = 0;
-        if (sscanf(line, "c %9u %n", &feature, &start) == 1 && feature <= TARIFF_FEATURES) names[feature] = line + start;
-    }
-}
-
 int main(int count, char **words) {
     program = "since";
-    at_contradiction = say_contradiction;
+    after_step = say_contradiction;
     if (count != 3) fail("usage: since TARIFF SCRIPT");
     read_tariff(words[1]);
     read_names();

@@ -2,6 +2,7 @@
 use super::formula::Formula;
 use super::layout::{self, Parts};
 use super::propagation::Run;
+use super::rating;
 use super::validation;
 use crate::answer::Answer;
 use crate::places::{BACKTRACKS, CONFLICT, DECISIONS, FIXED, LENGTH};
@@ -189,4 +190,15 @@ pub fn quote(book: &[u32], script: &[u8], out: &mut [u32], ceiling: &mut u64) ->
     let length = layout::required_length(formula.variables, formula.clauses());
     *ceiling = worst as u64 * (backs as u64 + 1);
     Ok(copied(&[length, worst, backs].map(|number| number as u32), out))
+}
+
+/// How many lines have an open variable; the amount goes to `amount`.
+pub fn price(book: &[u32], session: &[u32], base: i64, lines: &[i32], amount: &mut i64) -> Outcome {
+    let (_, parts) = validated(book, session)?;
+    if parts.header[CONFLICT] != 0 {
+        return Err(14);
+    }
+    let (last, open) = rating::price(parts.values, base, lines)?;
+    *amount = last;
+    Ok(Answer::Accepted(open))
 }

@@ -3,6 +3,7 @@ mod calls;
 mod formula;
 mod layout;
 mod propagation;
+mod rating;
 mod reader;
 mod validation;
 
@@ -71,5 +72,9 @@ impl Engine for Plain {
 
     fn quote(&self, book: &[u32], script: &[u8], out: &mut [u32], ceiling: &mut u64) -> Answer {
         answer(calls::quote(book, script, out, ceiling))
+    }
+
+    fn price(&self, book: &[u32], session: &[u32], base: i64, lines: &[i32], amount: &mut i64) -> Answer {
+        answer(calls::price(book, session, base, lines, amount))
     }
 }

@@ -88,3 +88,10 @@ sum (x ∷ xs) = x + sum xs
 -- what fits is copied to the front, and what lies behind stays
 unfoldable pub copied : List ℕ → List ℕ → List ℕ
 copied source buffer = take (length buffer) source ++ drop (length source) buffer
+
+-- the same elements in another order
+pub data Reordered {A : Type 0} : List A → List A → Type 0 where
+  unmoved : {xs : List A} → Reordered xs xs
+  swapped : {x y : A} {xs : List A} → Reordered (x ∷ y ∷ xs) (y ∷ x ∷ xs)
+  behind : {x : A} {xs ys : List A} → Reordered xs ys → Reordered (x ∷ xs) (x ∷ ys)
+  further : {xs ys zs : List A} → Reordered xs ys → Reordered ys zs → Reordered xs zs

@@ -4,23 +4,26 @@ use mathlib.Core.Bool.{Bool, true, false, cond, _&&_, and-false}
 use mathlib.Core.List.{List}
 use mathlib.Core.Path.{_≡_, refl, sym, ap, subst, _∙_}
 use native.Mathlib.Omega.{arith}
-use borrow.Author.Tests.{ltb-true, leb-true, eqb-false, ne-eqb}
+use borrow.Author.Tests.{ltb-true, leb-true, eqb-true, eqb-false, ne-eqb}
 use lib.Dec.{T, leb, eqb}
 use lib.IntN.{ℤ, pos, negsuc, natAbs}
 use lib.Signed.{ltZ}
 use Rattle.base.proofs.Bools.{and-parts}
 use Rattle.book.specs.Numbers.{wellFormed, variablesOf, formulaOf}
+use Rattle.run.specs.Trail.{isTrue}
 use Rattle.run.specs.Run.{Run, inConflict}
 use Rattle.run.proofs.Conflicts.{quiet-out, out-quiet}
 use Rattle.layout.specs.Layout.{held}
 use Rattle.validation.specs.Validation.{passes, callRefusal, readRefusal}
-use Rattle.session.specs.Outcomes.{outcome, accepted, refused, figuresAnswer}
+use Rattle.session.specs.Outcomes.{accepted, refused, figuresAnswer}
 use Rattle.session.specs.declared.Shown.the-variants as shown
 use Rattle.session.proofs.ToldLaws.{outcome-accepted, outcome-refused, shown-refused, shown-conflict}
 use Rattle.session.proofs.PassedLaws.{refused-first, none-first, own-refusal}
-use Rattle.rating.specs.Pricing.{maxBase, maxRunning, baseWithin, listWithin, linesOf, premiumOf, priceRefusal, premiumAnswer}
+use Rattle.rating.specs.Pricing.{maxBase, maxRunning, baseWithin, listWithin, linesOf, pricedBy, openLines, offered, premiumOf, priceRefusal, premiumAnswer}
 use Rattle.rating.specs.declared.Premium.{Premium}
-use Rattle.rating.specs.declared.Premium.the-variants.{Refused}
+use Rattle.rating.specs.declared.Premium.the-variants.{Of, Refused}
+use Rattle.rating.specs.declared.Priced.{Priced}
+use Rattle.rating.specs.declared.Priced.the-variants.{At, Beyond}
 
 pub base-negative : (x : ℤ) → ltZ x (pos 0) ≡ true → false ≡ baseWithin x
 unfolding baseWithin
@@ -130,3 +133,23 @@ module _ (book session : List ℕ) where
         → p ≡ premiumAnswer book session base numbers
     unfolding premiumAnswer
     answers-premium e p is = is ∙ rw (← e)
+
+    -- what an amount and a number of open lines tell
+    pub answered : (amount : ℤ) (n : ℕ) → premiumAnswer book session base numbers ≡ Of amount n
+        → (0 ≡ priceRefusal book session base numbers)
+        × (pricedBy (isTrue (run .trail)) (At base) (linesOf numbers) ≡ At amount)
+        × (openLines (isTrue (run .trail)) (linesOf numbers) ≡ n)
+    unfolding premiumAnswer
+    answered amount n e = go (eqb (priceRefusal book session base numbers) 0) refl e
+      where
+        offers : (count : ℕ) (state : Priced) → offered count state ≡ Of amount n → (state ≡ At amount) × (count ≡ n)
+        offers count (At x) e = (cc, cc)
+        offers count Beyond e = let z : _≡_ {A = ℕ} 0 1 = cc in absurd (omega arith)
+
+        go : (t : Bool) → eqb (priceRefusal book session base numbers) 0 ≡ t
+            → premiumOf base (linesOf numbers) (cond t (accepted run) (refused (priceRefusal book session base numbers))) ≡ Of amount n
+            → (0 ≡ priceRefusal book session base numbers)
+            × (pricedBy (isTrue (run .trail)) (At base) (linesOf numbers) ≡ At amount)
+            × (openLines (isTrue (run .trail)) (linesOf numbers) ≡ n)
+        go true p q = let parts = offers _ _ q in (sym (eqb-true _ 0 p), parts .0, parts .1)
+        go false p q = let z : _≡_ {A = ℕ} 0 1 = cc in absurd (omega arith)

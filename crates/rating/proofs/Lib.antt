@@ -3,3 +3,6 @@ pub mod PricingLaws
 pub mod AnswerLaws
 pub mod Rounding
 pub mod Refusals
+pub mod Premiums
+pub mod UnmetLine
+pub mod AnyOrder

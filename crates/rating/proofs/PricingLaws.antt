@@ -1,8 +1,8 @@
 -- Laws of the definitions: sizes, the limit of the running amount, lists of lines one after the other, open lines.
 use Prim.Native.Nat.{ℕ, suc, _+_, _*_, _/_, _≤_, _<_}
-use mathlib.Core.Bool.{Bool, true, false, cond, not, _&&_}
+use mathlib.Core.Bool.{Bool, true, false, cond, not, _&&_, _||_}
 use mathlib.Core.List.{List, [], _∷_, _++_}
-use mathlib.Core.Path.{_≡_, refl, sym, ap, _∙_}
+use mathlib.Core.Path.{_≡_, refl}
 use native.Mathlib.Omega.{arith}
 use borrow.Author.Tests.{leb-true, lt-leb, le-leb}
 use lib.Dec.{leb}
@@ -12,7 +12,7 @@ use Rattle.base.specs.Lists.{all, keep}
 use Rattle.base.proofs.Bools.{and-parts}
 use Rattle.base.proofs.Signed.{size-negated, product-within}
 use Rattle.book.specs.Formula.{literalWithin}
-use Rattle.run.specs.Trail.{Entry, isAssigned}
+use Rattle.run.specs.Trail.{opposite}
 use Rattle.rating.specs.Pricing.{maxLines, maxAmount, maxThousandths, maxRunning, linesOf, areLines, changeWithin, lineWithin, listWithin, rounded, applied, limited, stepped, pricedBy, openLines}
 use Rattle.rating.specs.declared.Change.the-variants.{Amount, Thousandths}
 use Rattle.rating.specs.declared.Priced.{Priced}
@@ -90,23 +90,68 @@ module _ (holds : ℕ → Bool) where
   priced-beyond [] = refl
   priced-beyond (line ∷ lines) = priced-beyond lines
 
--- whether a line is open, as a number
-abbrev pub openLine : List Entry → RateLine → ℕ
-openLine trail line = cond (isAssigned trail (line .literal)) 0 1
+  -- a line whose literal is not true changes nothing
+  pub unmet : (state : Priced) (line : RateLine) → holds (line .literal) ≡ false → stepped holds state line ≡ state
+  unfolding stepped
+  unmet (At x) line e = rw e
+  unmet Beyond line e = refl
 
-pub open-first : (trail : List Entry) (line : RateLine) (lines : List RateLine) → openLines trail (line ∷ lines) ≡ openLine trail line + openLines trail lines
-unfolding openLines keep
-open-first trail line lines = go (isAssigned trail (line .literal))
-  where
-    go : (t : Bool) → length (cond (not t) (line ∷ keep (λ (l : RateLine). not (isAssigned trail (l .literal))) lines) (keep (λ (l : RateLine). not (isAssigned trail (l .literal))) lines))
-        ≡ cond t 0 1 + length (keep (λ (l : RateLine). not (isAssigned trail (l .literal))) lines)
-    go true = omega arith
-    go false = omega arith
+  -- whether a line is open, as a number
+  abbrev pub openLine : RateLine → ℕ
+  openLine line = cond (holds (line .literal) || holds (opposite (line .literal))) 0 1
+
+  pub open-first : (line : RateLine) (lines : List RateLine) → openLines holds (line ∷ lines) ≡ openLine line + openLines holds lines
+  unfolding openLines keep
+  open-first line lines = go (holds (line .literal) || holds (opposite (line .literal)))
+    where
+      isOpen : RateLine → Bool
+      isOpen l = not (holds (l .literal) || holds (opposite (l .literal)))
+
+      go : (t : Bool) → length (cond (not t) (line ∷ keep isOpen lines) (keep isOpen lines)) ≡ cond t 0 1 + length (keep isOpen lines)
+      go true = omega arith
+      go false = omega arith
+
+  pub open-append : (front back : List RateLine) → openLines holds (front ++ back) ≡ openLines holds front + openLines holds back
+  unfolding openLines keep
+  open-append [] back = omega arith
+  open-append (line ∷ front) back = omega (arith, open-first line (front ++ back), open-first line front, open-append front back)
+
+  pub open-few : (lines : List RateLine) → openLines holds lines ≤ length lines
+  unfolding openLines keep
+  open-few [] = omega arith
+  open-few (line ∷ lines) = omega (arith, open-first line lines, open-few lines, one (holds (line .literal) || holds (opposite (line .literal))))
+    where
+      one : (t : Bool) → cond t 0 1 ≤ 1
+      one true = omega arith
+      one false = omega arith
+
+-- tests that agree come to the same
+module _ (f g : ℕ → Bool) (agree : (l : ℕ) → f l ≡ g l) where
+  step-alike : (state : Priced) (line : RateLine) → stepped f state line ≡ stepped g state line
+  unfolding stepped
+  step-alike (At x) line = rw (agree (line .literal))
+  step-alike Beyond line = refl
+
+  pub priced-alike : (lines : List RateLine) (state : Priced) → pricedBy f state lines ≡ pricedBy g state lines
+  unfolding pricedBy
+  priced-alike [] state = refl
+  priced-alike (line ∷ lines) state = rw (step-alike state line) (priced-alike lines (stepped g state line))
+
+  pub open-alike : (lines : List RateLine) → openLines f lines ≡ openLines g lines
+  unfolding openLines keep
+  open-alike [] = refl
+  open-alike (line ∷ lines) =
+      let here : openLine f line ≡ openLine g line = rw (agree (line .literal), agree (opposite (line .literal))) in
+      omega (arith, open-first f line lines, open-first g line lines, here, open-alike lines)
 
 -- the parts of a list within its ranges, and of a line
-pub list-lines : (v : ℕ) (numbers : List ℤ) → listWithin v numbers ≡ true → all (lineWithin v) (linesOf numbers) ≡ true
+pub list-parts : (v : ℕ) (numbers : List ℤ) → listWithin v numbers ≡ true
+    → (areLines numbers ≡ true) × (length (linesOf numbers) ≤ maxLines) × (all (lineWithin v) (linesOf numbers) ≡ true)
 unfolding listWithin
-list-lines v numbers e = and-parts (areLines numbers && leb (length (linesOf numbers)) maxLines) (all (lineWithin v) (linesOf numbers)) e .1
+list-parts v numbers e =
+    let both = and-parts (areLines numbers && leb (length (linesOf numbers)) maxLines) (all (lineWithin v) (linesOf numbers)) e in
+    let counted = and-parts (areLines numbers) (leb (length (linesOf numbers)) maxLines) (both .0) in
+    (counted .0, leb-true (length (linesOf numbers)) maxLines (counted .1), both .1)
 
 pub line-parts : (v : ℕ) (line : RateLine) → lineWithin v line ≡ true → (literalWithin v (line .literal) ≡ true) × (changeWithin (line .change) ≡ true)
 unfolding lineWithin

@@ -1,18 +1,18 @@
 -- Each refusal exactly where the text says, and where the running amount goes beyond its limit.
-use Prim.Native.Nat.{ℕ, _≤_, _<_}
+use Prim.Native.Nat.{ℕ}
 use mathlib.Core.Bool.{Bool, true, false, cond, _&&_}
-use mathlib.Core.List.{List, [], _∷_, _++_}
+use mathlib.Core.List.{List, [], _∷_}
 use mathlib.Core.Logic.{_⊎_, inl, inr}
 use mathlib.Core.Path.{_≡_, refl, sym, ap, _∙_}
 use native.Mathlib.Omega.{arith}
-use borrow.Author.Tests.{leb-false, lt-leb}
+use borrow.Author.Tests.{leb-false}
 use lib.Dec.{leb}
 use lib.IntN.{ℤ, natAbs}
 use Rattle.book.specs.Numbers.{wellFormed, variablesOf, formulaOf}
 use Rattle.run.specs.Trail.{isTrue}
 use Rattle.run.specs.Run.{Run, inConflict}
 use Rattle.layout.specs.Layout.{held}
-use Rattle.validation.specs.Validation.{passes, callRefusal, readRefusal}
+use Rattle.validation.specs.Validation.{passes, callRefusal}
 use Rattle.session.specs.Outcomes.{outcome}
 use Rattle.rating.specs.Pricing.{maxRunning, linesOf, baseWithin, listWithin, applied, limited, stepped, pricedBy, openLines, offered, premiumOf, priceRefusal, premiumAnswer}
 use Rattle.rating.specs.Statement.{GoesBeyond, RefusedWhere}
@@ -20,7 +20,7 @@ use Rattle.rating.specs.declared.Priced.{Priced}
 use Rattle.rating.specs.declared.Priced.the-variants.{At, Beyond}
 use Rattle.rating.specs.declared.RateLine.{RateLine}
 use Rattle.rating.specs.declared.Premium.{Premium}
-use Rattle.rating.specs.declared.Premium.the-variants.{Of, Refused}
+use Rattle.rating.specs.declared.Premium.the-variants.{Refused}
 use Rattle.rating.proofs.PricingLaws.{limited-over, priced-append, priced-beyond}
 
 module _ (holds : ℕ → Bool) where
@@ -67,7 +67,7 @@ module _ (holds : ℕ → Bool) where
       ∙ rw (g .applies, ← limited-over (applied (g .running) (g .line .change)) (g .beyond)) (priced-beyond holds (g .back))
 
 -- An answer by what is tested in turn: the book, the session, the conflict, the ranges; then by what the lines come to.
-abbrev said : Bool → Bool → Bool → Bool → Priced → ℕ → Premium
+abbrev pub said : Bool → Bool → Bool → Bool → Priced → ℕ → Premium
 said w p c r state n = cond w (cond p (cond c (Refused 14) (cond r (offered n state) (Refused 19))) (Refused 12)) (Refused 11)
 
 -- what a refusal tells of the tests
@@ -134,16 +134,16 @@ module _ (book session : List ℕ) (base : ℤ) (numbers : List ℤ) where
   abbrev run : Run
   run = held (formulaOf book) session
 
-  abbrev right : Bool
+  abbrev pub right : Bool
   right = baseWithin base && listWithin (variablesOf book) numbers
 
-  abbrev state : Priced
+  abbrev pub state : Priced
   state = pricedBy (isTrue (run .trail)) (At base) (linesOf numbers)
 
-  abbrev open-count : ℕ
-  open-count = openLines (run .trail) (linesOf numbers)
+  abbrev pub open-count : ℕ
+  open-count = openLines (isTrue (run .trail)) (linesOf numbers)
 
-  said-is : premiumAnswer book session base numbers ≡ said (wellFormed book) (passes (formulaOf book) session) (inConflict run) right state open-count
+  pub said-is : premiumAnswer book session base numbers ≡ said (wellFormed book) (passes (formulaOf book) session) (inConflict run) right state open-count
   unfolding premiumAnswer priceRefusal callRefusal
   said-is = go (wellFormed book) (passes (formulaOf book) session) (inConflict run) right
     where

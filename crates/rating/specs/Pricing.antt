@@ -1,6 +1,6 @@
 -- Request K1, premium in cents from a settled session: the rate list, how its lines change the running amount, and what a call that prices answers.
 use Prim.Native.Nat.{ℕ, zero, suc, _+_, _/_, _≤_}
-use mathlib.Core.Bool.{Bool, true, false, cond, not, _&&_}
+use mathlib.Core.Bool.{Bool, true, false, cond, not, _&&_, _||_}
 use mathlib.Core.List.{List, [], _∷_}
 use mathlib.Core.Path.{_≡_}
 use lib.Dec.{leb}
@@ -9,7 +9,7 @@ use lib.IntN.{ℤ, pos, negsuc, negℤ, natAbs, _+ℤ_, _-ℤ_, _*ℤ_}
 use Rattle.base.specs.Lists.{all, keep}
 use Rattle.book.specs.Formula.{literalWithin}
 use Rattle.book.specs.Numbers.{variablesOf, formulaOf}
-use Rattle.run.specs.Trail.{Entry, isTrue, isAssigned}
+use Rattle.run.specs.Trail.{opposite, isTrue}
 use Rattle.run.specs.Run.{Run, inConflict}
 use Rattle.layout.specs.Layout.{held}
 use Rattle.validation.specs.Validation.{callRefusal}
@@ -114,9 +114,9 @@ unfoldable pub pricedBy : (ℕ → Bool) → Priced → List RateLine → Priced
 pricedBy holds state [] = state
 pricedBy holds state (line ∷ lines) = pricedBy holds (stepped holds state line) lines
 
--- The lines whose variable (the paper's feature) is open, each line by itself.
-unfoldable pub openLines : List Entry → List RateLine → ℕ
-openLines trail lines = length (keep (λ (line : RateLine). not (isAssigned trail (line .literal))) lines)
+-- The lines whose variable (the paper's feature) is open, each line by itself: neither its literal is true nor the opposite one.
+unfoldable pub openLines : (ℕ → Bool) → List RateLine → ℕ
+openLines holds lines = length (keep (λ (line : RateLine). not (holds (line .literal) || holds (opposite (line .literal)))) lines)
 
 -- The answer: the refusal number; 20 where the running amount went beyond its limit; else the final amount and the number of open lines.
 abbrev pub offered : ℕ → Priced → Premium
@@ -125,7 +125,7 @@ offered unassigned Beyond = Refused 20
 
 abbrev pub premiumOf : ℤ → List RateLine → Outcome Run → Premium
 premiumOf start lines (refused number) = Refused number
-premiumOf start lines (accepted run) = offered (openLines (run .trail) lines) (pricedBy (isTrue (run .trail)) (At start) lines)
+premiumOf start lines (accepted run) = offered (openLines (isTrue (run .trail)) lines) (pricedBy (isTrue (run .trail)) (At start) lines)
 
 -- On a book, of a session, of a base and of a rate list, all as lent numbers: 11, 12, then 14 in conflict, then 19 for the base and the whole list.
 module _ (book session : List ℕ) (base : ℤ) (numbers : List ℤ) where

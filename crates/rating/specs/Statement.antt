@@ -12,6 +12,8 @@ use Rattle.run.specs.Run.{Run, inConflict}
 use Rattle.layout.specs.Layout.{held}
 use Rattle.validation.specs.Validation.{passes}
 use Rattle.rating.specs.Pricing.{maxLines, maxRunning, linesOf, baseWithin, listWithin, applied, pricedBy, premiumAnswer}
+use Rattle.rating.specs.declared.Change.{Change}
+use Rattle.rating.specs.declared.Change.the-variants.{Amount, Thousandths}
 use Rattle.rating.specs.declared.Priced.{Priced}
 use Rattle.rating.specs.declared.Priced.the-variants.{At}
 use Rattle.rating.specs.declared.RateLine.{RateLine}
@@ -33,6 +35,10 @@ pub record GoesBeyond (holds : ℕ → Bool) (start : ℤ) (lines : List RateLin
 abbrev pub withOpen : ℕ → Premium → Premium
 withOpen n (Of amount unassigned) = Of amount (n + unassigned)
 withOpen n (Refused number) = Refused number
+
+abbrev pub isAmount : Change → Bool
+isAmount (Amount cents) = true
+isAmount (Thousandths part) = false
 
 module _ (book session : List ℕ) (base : ℤ) (numbers : List ℤ) where
   abbrev run : Run

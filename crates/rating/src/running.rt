@@ -114,7 +114,7 @@ pub(crate) fn apply_all(book: &[u32], session: &[u32], start: i64, numbers: &[i3
 // How many lines have an open variable.
 pub(crate) fn open_lines(book: &[u32], session: &[u32], numbers: &[i32]) -> u32
     requires { ⌜ (readRefusal (now book) (now session) ≡ 0) × (listWithin (variablesOf (now book)) (now numbers) ≡ true) ⌝ }
-    ensures { λ r. ⌜ r ≡ openLines (held (formulaOf (now (book .entry))) (now (session .entry)) .trail) (linesOf (now (numbers .entry))) ⌝ }
+    ensures { λ r. ⌜ r ≡ openLines (isTrue (held (formulaOf (now (book .entry))) (now (session .entry)) .trail)) (linesOf (now (numbers .entry))) ⌝ }
 {
     let mut count = 0;
     let mut at = 0;

@@ -4,7 +4,7 @@ use mathlib.Core.Bool.{Bool, true, false, _&&_, and-false}
 use mathlib.Core.List.{List, [], _∷_}
 use mathlib.Core.Path.{_≡_, refl, sym, ap, subst, _∙_}
 use native.Mathlib.Omega.{arith}
-use borrow.Author.Tests.{eqb-true, eqb-false, ltb-true, leb-true, lt-leb, le-leb}
+use borrow.Author.Tests.{eqb-true, eqb-false, ltb-true, lt-leb, le-leb}
 use lib.Dec.{T, leb, eqb}
 use lib.IntN.{ℤ, pos, negsuc, natAbs}
 use lib.ListN.{length, getD, drop, length-drop, drop-of-length-le}
@@ -20,6 +20,7 @@ use Rattle.rating.specs.Pricing.{literalOf, changeOf, linesOf, isKind, a
 use Rattle.rating.specs.declared.Change.{Change}
 use Rattle.rating.specs.declared.Change.the-variants.{Amount, Thousandths}
 use Rattle.rating.specs.declared.RateLine.{RateLine}
+use Rattle.rating.proofs.PricingLaws.{list-parts}
 
 -- a number that is told by its bits
 module _ (x : ℤ) (f : SFits w32 x) where
@@ -137,11 +138,8 @@ cut-short (literal ∷ kind ∷ []) h k = refl
 cut-short (literal ∷ kind ∷ value ∷ numbers) h k = absurd (omega arith)
 
 module _ (v : ℕ) (numbers : List ℤ) where
-  pub list-short : listWithin v numbers ≡ true → length numbers ≤ 600
-  unfolding listWithin
-  list-short e =
-      let parts = and-parts (areLines numbers) (leb (length (linesOf numbers)) maxLines) (and-parts (areLines numbers && leb (length (linesOf numbers)) maxLines) (all (lineWithin v) (linesOf numbers)) e .0) in
-      omega (arith, lines-all numbers (parts .0), leb-true (length (linesOf numbers)) maxLines (parts .1))
+  pub list-short : listWithin v numbers ≡ true → length numbers ≤ 3 * maxLines
+  list-short e = let parts = list-parts v numbers e in omega (arith, lines-all numbers (parts .0), parts .1)
 
   pub too-many : 3 * maxLines < length numbers → false ≡ listWithin v numbers
   unfolding listWithin

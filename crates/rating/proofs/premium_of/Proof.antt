@@ -40,13 +40,13 @@ returns c =
     let entry = c .before .before .before .before .before .before .before in
     let trail = held (formulaOf (entry .args .book .now)) (entry .args .session .now) .trail in
     ap₂ Of (toZ-ofZ w64 (field .0 .0) (record { sfits = c .before .known-told .given .0 .1 })) (c .open-lines .ensures)
-    ∙ ap (offered (openLines trail (linesOf (entry .args .lines .now)))) (sym (field .1) ∙ all-applied (c .before .before .before .before))
+    ∙ ap (offered (openLines (isTrue trail) (linesOf (entry .args .lines .now)))) (sym (field .1) ∙ all-applied (c .before .before .before .before))
 
 returns-2 : tie.Need-returns-2
 returns-2 c =
     let entry = c .before .before .before .before .before in
     let trail = held (formulaOf (entry .args .book .now)) (entry .args .session .now) .trail in
-    ap (offered (openLines trail (linesOf (entry .args .lines .now)))) (sym (c .enum-told .given .1) ∙ all-applied (c .before .before))
+    ap (offered (openLines (isTrue trail) (linesOf (entry .args .lines .now)))) (sym (c .enum-told .given .1) ∙ all-applied (c .before .before))
 
 pub premium-of-spec : {M : Type 1} → statement M
 premium-of-spec =

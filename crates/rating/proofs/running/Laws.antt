@@ -5,20 +5,20 @@ use mathlib.Core.List.{List, [], _∷_}
 use mathlib.Core.Path.{_≡_, refl, sym, ap, _∙_}
 use native.Mathlib.Omega.{arith}
 use borrow.Author.Tests.{not-true, not-false}
-use lib.IntN.{ℤ, natAbs}
+use lib.IntN.{ℤ}
 use lib.ListN.{length, drop, length-drop}
 use Rattle.base.specs.Lists.{all, keep}
 use Rattle.base.proofs.Bools.{and-parts}
 use Rattle.book.specs.Formula.{literalWithin}
-use Rattle.run.specs.Trail.{Entry, isAssigned}
+use Rattle.run.specs.Trail.{Entry, isTrue, isAssigned}
 use Rattle.layout.specs.Values.{valueIn}
 use Rattle.layout.specs.declared.values.Value.the-variants.{Open, True, False}
 use Rattle.layout.proofs.ValueLaws.{value-open, value-true, value-false}
-use Rattle.rating.specs.Pricing.{maxRunning, linesOf, changeWithin, lineWithin, listWithin, applied, limited, stepped, pricedBy, openLines}
+use Rattle.rating.specs.Pricing.{maxLines, linesOf, changeWithin, lineWithin, listWithin, applied, limited, stepped, pricedBy, openLines}
 use Rattle.rating.specs.declared.Priced.{Priced}
 use Rattle.rating.specs.declared.Priced.the-variants.{At, Beyond}
 use Rattle.rating.specs.declared.RateLine.{RateLine}
-use Rattle.rating.proofs.PricingLaws.{Small, at-small, stepped-small, openLine, open-first, list-lines, line-parts}
+use Rattle.rating.proofs.PricingLaws.{Small, stepped-small, openLine, open-first, list-parts, line-parts}
 use Rattle.rating.proofs.lines.Laws.{lines-none, list-short}
 
 -- a line that is told to apply, or not
@@ -81,7 +81,7 @@ module _ (v : ℕ) (numbers : List ℤ) where
       pub rest : pricedBy holds state (linesOf (drop at numbers)) ≡ pricedBy holds start (linesOf numbers)
 
     pub applied-none : listWithin v numbers ≡ true → Small start → AppliedBefore start 0
-    applied-none e s = record { inside = omega arith; ranged = list-lines v numbers e; small = s; rest = refl }
+    applied-none e s = record { inside = omega arith; ranged = list-parts v numbers e .2; small = s; rest = refl }
 
     module _ (state : Priced) (at : ℕ) (a : AppliedBefore state at) where
       pub applied-more : at + 2 < length numbers → (line : RateLine) → linesOf (drop at numbers) ≡ line ∷ linesOf (drop (at + 3) numbers)
@@ -104,18 +104,18 @@ module _ (v : ℕ) (numbers : List ℤ) where
   module _ (trail : List Entry) where
     pub record OpenBefore (count at : ℕ) : Type 0 where
       pub inside : at ≤ length numbers
-      pub short : length numbers ≤ 600
+      pub short : length numbers ≤ 3 * maxLines
       pub ranged : Ranged at
       pub few : count ≤ at
-      pub rest : count + openLines trail (linesOf (drop at numbers)) ≡ openLines trail (linesOf numbers)
+      pub rest : count + openLines (isTrue trail) (linesOf (drop at numbers)) ≡ openLines (isTrue trail) (linesOf numbers)
 
     pub open-none : listWithin v numbers ≡ true → OpenBefore 0 0
-    open-none e = record { inside = omega arith; short = list-short v numbers e; ranged = list-lines v numbers e; few = omega arith; rest = omega arith }
+    open-none e = record { inside = omega arith; short = list-short v numbers e; ranged = list-parts v numbers e .2; few = omega arith; rest = omega arith }
 
     module _ (count at : ℕ) (o : OpenBefore count at) where
       module _ (h : at + 2 < length numbers) (line : RateLine) (is : linesOf (drop at numbers) ≡ line ∷ linesOf (drop (at + 3) numbers)) where
-        counts : openLines trail (linesOf (drop at numbers)) ≡ openLine trail line + openLines trail (linesOf (drop (at + 3) numbers))
-        counts = ap (openLines trail) is ∙ open-first trail line (linesOf (drop (at + 3) numbers))
+        counts : openLines (isTrue trail) (linesOf (drop at numbers)) ≡ openLine (isTrue trail) line + openLines (isTrue trail) (linesOf (drop (at + 3) numbers))
+        counts = ap (openLines (isTrue trail)) is ∙ open-first (isTrue trail) line (linesOf (drop (at + 3) numbers))
 
         pub open-counted : true ≡ not (isAssigned trail (line .literal)) → OpenBefore (count + 1) (at + 3)
         open-counted e =
@@ -127,8 +127,8 @@ module _ (v : ℕ) (numbers : List ℤ) where
             let none = rw (not-false (isAssigned trail (line .literal)) (sym e)) at counts in
             record { inside = omega arith; short = o .short; ranged = ranged-parts at (o .ranged) line is .1; few = omega (arith, o .few); rest = omega (arith, none, o .rest) }
 
-      pub open-all : length numbers ≤ at + 2 → count ≡ openLines trail (linesOf numbers)
+      pub open-all : length numbers ≤ at + 2 → count ≡ openLines (isTrue trail) (linesOf numbers)
       unfolding openLines keep
       open-all last =
-          let nothing : openLines trail (linesOf (drop at numbers)) ≡ 0 = ap (openLines trail) (ended at last) in
+          let nothing : openLines (isTrue trail) (linesOf (drop at numbers)) ≡ 0 = ap (openLines (isTrue trail)) (ended at last) in
           omega (arith, nothing, o .rest)
