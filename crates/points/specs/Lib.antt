@@ -6,3 +6,4 @@ pub mod K5
 pub mod K14
 pub mod K6
 pub mod K11
+pub mod K1
