@@ -6,44 +6,24 @@
 #include <optional>
 #include <vector>
 
-#include "../counts/numbers.hpp"
-#include "../support/book_damage.hpp"
+#include "../support/lent_session.hpp"
 #include "lending.hpp"
 
 class Draw {
 public:
-    Draw(Random& random, const Library& library) : random(random) {
-        session(library);
+    Draw(Random& random, const Library& library) : random(random), parts(random, library, lent.book, lent.session) {
         counts();
         chapters();
         totals();
-        damage();
+        refusal = parts.damage();
     }
 
     Lending lent;
-    std::optional<uint64_t> refusal = 0;  // the number by which the examination refuses, where it is known; 0 where it does not
+    std::optional<uint64_t> refusal;  // the number by which the examination refuses, where it is known; 0 where it does not
 
 private:
     size_t below(size_t n) { return static_cast<size_t>(random.below(static_cast<int>(n))); }
     uint32_t any() { return static_cast<uint32_t>(random.next()); }
-
-    // Just as many numbers as needed, or more.
-    void session(const Library& library) {
-        lent.book = {library.lent_book().numbers, TARIFF_BOOK};
-        lent.session = {library.lent_session().numbers, library.lent_session().numbers.size()};
-        book_need = 4 + lent.clauses() + lent.book.memory[2];
-        session_need = library.required_length();
-        if (random.chance(50)) lent.book.length = book_need;
-        if (random.chance(50)) lent.session.length = session_need;
-        if (random.chance(10)) lend_all();
-        if (random.chance(5)) lent.session.memory[BACKTRACKS] = 1000000;
-    }
-
-    // As many session numbers as any book needs.
-    void lend_all() {
-        while (lent.session.memory.size() < TARIFF_SESSION) lent.session.memory.push_back(any());
-        lent.session.length = TARIFF_SESSION;
-    }
 
     // As the session came to them; or any, all full, or any of the least and the greatest.
     void counts() {
@@ -94,24 +74,6 @@ private:
         for (uint64_t& total : lent.totals.memory) total = kind == 0 ? ~uint64_t{0} : kind == 1 ? any() : random.next();
     }
 
-    // A book at fault comes before the session, damaged or not.
-    void damage() {
-        int kind = random.below(100);
-        if (kind < 15) damage_session();
-        if (kind >= 10 && kind < 25) refusal = damage_book(random, lent.book, book_need);
-    }
-
-    // Cut; or with more decisions fixed than are in force, or more literals on the trail than variables; or changed.
-    void damage_session() {
-        Numbers& session = lent.session.memory;
-        int kind = random.below(6);
-        refusal = 12;
-        if (kind < 3) cut(random, lent.session, session_need);
-        if (kind == 3) session[FIXED] = session[DECISIONS] + 1;
-        if (kind == 4) session[TRAIL_LENGTH] = static_cast<uint32_t>(lent.variables()) + 1;
-        if (kind == 5) refusal = change(random, lent.session, session_need);
-    }
-
     Random& random;
-    size_t book_need = 0, session_need = 0;
+    LentSession parts;
 };

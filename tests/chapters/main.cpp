@@ -24,17 +24,6 @@ constexpr int ENOUGH = 5;
 
 const Cases cases("chapters", 70060000);
 
-// Calls on random numbers, refused ones among them: decisions, backtracks and fixings.
-void wander(Random& random, Library& library, int steps) {
-    int last = 2 * static_cast<int>(library.variables()) + 1;
-    for (; steps > 0; steps--) {
-        int kind = random.below(100);
-        if (kind < 80) library.take({Call::DECIDE, static_cast<uint32_t>(random.between(2, last))});
-        if (kind >= 80 && kind < 95) library.take({Call::BACKTRACK, static_cast<uint32_t>(random.between(1, 3))});
-        if (kind >= 95) library.take({Call::FIX, static_cast<uint32_t>(random.between(0, 2))});
-    }
-}
-
 // Calls on the states that a random session comes to.
 void run_case(uint64_t seed, const shapes::Shape& shape, const Ways& ways, Tally& tally) {
     Random random(seed);

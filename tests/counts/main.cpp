@@ -158,16 +158,6 @@ void check_run(const Generated& made, Fault fault) {
     }
 }
 
-template <class Compare>
-bool disagrees(Compare compare) {
-    try {
-        compare();
-    } catch (const Disagreement&) {
-        return true;
-    }
-    return false;
-}
-
 // How often a wrong run, view or reading was noticed: by the numbers after each call, by the lines alone, and by the text alone.
 struct Noticed {
     int cases = 0, by_numbers = 0, by_lines = 0, by_text = 0;
@@ -181,9 +171,9 @@ struct Noticed {
         cases++;
         Formula formula = wrong.reading ? wrong.reading(made.written) : made.formula;
         Work work;
-        if (disagrees([&] { compare_library(made, formula, wrong.fault, wrong.view, work); })) by_numbers++;
+        if (disagrees("", [&] { compare_library(made, formula, wrong.fault, wrong.view, work); })) by_numbers++;
         if (wrong.in_script && lines_by(formula, wrong.fault, made.example.script) != expected) by_lines++;
-        if (wrong.in_text && disagrees([&] { check_run(made, wrong.fault); })) by_text++;
+        if (wrong.in_text && disagrees("", [&] { check_run(made, wrong.fault); })) by_text++;
     }
 
     void print(const Wrong& wrong) const {

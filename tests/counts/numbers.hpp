@@ -10,9 +10,6 @@
 #include "../support/library.hpp"
 #include "run.hpp"
 
-// The places in the header of a session, and how many there are.
-enum Place { TRAIL_LENGTH, DECISIONS, CONFLICT, BACKTRACKS, FIXED, HEADER };
-
 struct Part {
     std::string name;
     Numbers numbers;

@@ -21,12 +21,6 @@ struct Lending {
     std::string lines() const { return std::string(script.memory.begin(), script.memory.begin() + static_cast<std::ptrdiff_t>(script.length)); }
 };
 
-// NULL for a part of length 0, as the header allows.
-template <class Number>
-Number* pointer_to(Loan<Number>& part) {
-    return part.length == 0 ? nullptr : part.memory.data();
-}
-
 inline uint64_t by_library(Lending& lent) {
     return tariff_quote(pointer_to(lent.book), lent.book.length, pointer_to(lent.script), lent.script.length, pointer_to(lent.out), lent.out.length,
                         &lent.ceiling);

@@ -13,16 +13,6 @@
 #include "compare.hpp"
 #include "worked.hpp"
 
-// Makes a comparison; whether it disagrees, and by a message that begins with this part.
-inline bool disagrees(const std::string& part, const std::function<void()>& compare) {
-    try {
-        compare();
-        return false;
-    } catch (const Disagreement& disagreement) {
-        return std::string(disagreement.what()).rfind(part, 0) == 0;
-    }
-}
-
 namespace parts {
 
 struct Wrong {

@@ -14,6 +14,9 @@
 using Numbers = std::vector<uint32_t>;
 using Lookups = std::vector<uint64_t>;  // what was answered to the numbers below, in their order
 
+// The places in the header of a session, and how many there are.
+enum Place { TRAIL_LENGTH, DECISIONS, CONFLICT, BACKTRACKS, FIXED, HEADER };
+
 // A call of a run: a decision on any number, or a backtrack or a fixing of any number.
 struct Call {
     enum Kind { DECIDE, BACKTRACK, FIX };

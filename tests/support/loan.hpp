@@ -14,6 +14,12 @@ struct Loan {
     size_t length = 0;
 };
 
+// NULL for a part of length 0, as the header allows.
+template <class Number>
+Number* pointer_to(Loan<Number>& part) {
+    return part.length == 0 ? nullptr : part.memory.data();
+}
+
 inline void compare_number(uint64_t seen, uint64_t expected, const std::string& name, size_t place) {
     if (seen != expected)
         throw Disagreement(name + " " + std::to_string(place) + " is " + std::to_string(seen) + ", must be " + std::to_string(expected));

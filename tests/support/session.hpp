@@ -3,6 +3,7 @@
 #include <cstddef>
 #include <cstdint>
 #include <cstdlib>
+#include <functional>
 #include <stdexcept>
 #include <string>
 #include <vector>
@@ -20,6 +21,16 @@ struct Disagreement : std::runtime_error {
 
 inline void expect(bool holds, const std::string& what) {
     if (!holds) throw Disagreement(what);
+}
+
+// Makes a comparison; whether it disagrees, and by a message that begins with this part.
+inline bool disagrees(const std::string& part, const std::function<void()>& compare) {
+    try {
+        compare();
+        return false;
+    } catch (const Disagreement& disagreement) {
+        return std::string(disagreement.what()).rfind(part, 0) == 0;
+    }
 }
 
 class Session {
