@@ -26,8 +26,8 @@ book = numbersOf listing
 abbrev begun : List ℕ
 begun = encode listing (reference listing (decision 3 ∷ []))
 
-abbrev settled : List ℕ
-settled = encode listing (reference listing (decision 3 ∷ decision 7 ∷ []))
+abbrev assigned : List ℕ
+assigned = encode listing (reference listing (decision 3 ∷ decision 7 ∷ []))
 
 abbrev price : List ℕ → ℕ → List ℤ → Premium
 price session base numbers = premiumAnswer book session (pos base) numbers
@@ -67,56 +67,56 @@ pub record Points : Type 0 where
   pub minus-by-plus : applied (minus 5) (Thousandths (pos 100)) ≡ minus 6
   pub minus-by-minus : applied (minus 5) (Thousandths (minus 100)) ≡ minus 4
   -- The listing after `-1` and `-3`: 14,845, 13,732, 15,449; in the other order; and after `-1` alone, with three lines open.
-  pub worked : price settled 12345 rates ≡ Of (pos 15449) 0
-  pub worked-steps : price settled 12345 (take 6 rates) ≡ Of (pos 13732) 0
-  pub turned : price settled 12345 (part 6 (pos 500) ++ (part 9 (pos 125) ++ (amount 2 (pos 99999) ++ (part 3 (minus 75) ++ amount 4 (pos 2500))))) ≡ Of (pos 15346) 0
-  pub half-settled : price begun 12345 rates ≡ Of (pos 11419) 3
+  pub worked : price assigned 12345 rates ≡ Of (pos 15449) 0
+  pub worked-steps : price assigned 12345 (take 6 rates) ≡ Of (pos 13732) 0
+  pub turned : price assigned 12345 (part 6 (pos 500) ++ (part 9 (pos 125) ++ (amount 2 (pos 99999) ++ (part 3 (minus 75) ++ amount 4 (pos 2500))))) ≡ Of (pos 15346) 0
+  pub begun-only : price begun 12345 rates ≡ Of (pos 11419) 3
   -- In list order: an amount before a change, and behind it.
-  pub amount-first : price settled 1000 (amount 3 (pos 1000) ++ part 3 (pos 100)) ≡ Of (pos 2200) 0
-  pub change-first : price settled 1000 (part 3 (pos 100) ++ amount 3 (pos 1000)) ≡ Of (pos 2100) 0
+  pub amount-first : price assigned 1000 (amount 3 (pos 1000) ++ part 3 (pos 100)) ≡ Of (pos 2200) 0
+  pub change-first : price assigned 1000 (part 3 (pos 100) ++ amount 3 (pos 1000)) ≡ Of (pos 2100) 0
   -- Below zero, and nothing at all.
-  pub below : price settled 100 (amount 3 (minus 105) ++ part 3 (pos 100)) ≡ Of (minus 6) 0
-  pub below-less : price settled 100 (amount 3 (minus 105) ++ part 3 (minus 100)) ≡ Of (minus 4) 0
-  pub no-lines : price settled 12345 [] ≡ Of (pos 12345) 0
-  pub nothing : price settled 0 [] ≡ Of (pos 0) 0
+  pub below : price assigned 100 (amount 3 (minus 105) ++ part 3 (pos 100)) ≡ Of (minus 6) 0
+  pub below-less : price assigned 100 (amount 3 (minus 105) ++ part 3 (minus 100)) ≡ Of (minus 4) 0
+  pub no-lines : price assigned 12345 [] ≡ Of (pos 12345) 0
+  pub nothing : price assigned 0 [] ≡ Of (pos 0) 0
   -- Each line counts by itself, whatever its sign; a line that is false is not open.
   pub each-line : price begun 0 (amount 4 (pos 9) ++ (amount 5 (pos 9) ++ (amount 2 (pos 9) ++ (amount 3 (pos 9) ++ part 4 (pos 10))))) ≡ Of (pos 9) 3
   -- The limit of the running amount, on either side; no later line heals it.
-  pub at-limit : price settled 976562500 (several 10 (part 3 (pos 1000))) ≡ Of (pos 1000000000000) 0
-  pub over-limit : price settled 976562500 (several 10 (part 3 (pos 1000)) ++ amount 3 (pos 1)) ≡ Refused 20
-  pub not-healed : price settled 976562500 (several 10 (part 3 (pos 1000)) ++ (amount 3 (pos 1) ++ amount 3 (minus 1))) ≡ Refused 20
-  pub at-lower-limit : price settled 0 falling ≡ Of (minus 1000000000000) 0
-  pub under-limit : price settled 0 (falling ++ amount 3 (minus 1)) ≡ Refused 20
+  pub at-limit : price assigned 976562500 (several 10 (part 3 (pos 1000))) ≡ Of (pos 1000000000000) 0
+  pub over-limit : price assigned 976562500 (several 10 (part 3 (pos 1000)) ++ amount 3 (pos 1)) ≡ Refused 20
+  pub not-healed : price assigned 976562500 (several 10 (part 3 (pos 1000)) ++ (amount 3 (pos 1) ++ amount 3 (minus 1))) ≡ Refused 20
+  pub at-lower-limit : price assigned 0 falling ≡ Of (minus 1000000000000) 0
+  pub under-limit : price assigned 0 (falling ++ amount 3 (minus 1)) ≡ Refused 20
   -- 19, on both sides of each range: the base, an amount, thousandths, the literal, lines that are false too.
-  pub largest-base : price settled 1000000000 [] ≡ Of (pos 1000000000) 0
-  pub base-over : price settled 1000000001 [] ≡ Refused 19
-  pub base-under : premiumAnswer book settled (minus 1) [] ≡ Refused 19
-  pub largest-amount : price settled 0 (amount 3 (pos 10000000)) ≡ Of (pos 10000000) 0
-  pub amount-over : price settled 0 (amount 3 (pos 10000001)) ≡ Refused 19
-  pub least-amount : price settled 0 (amount 3 (minus 10000000)) ≡ Of (minus 10000000) 0
-  pub amount-under : price settled 0 (amount 3 (minus 10000001)) ≡ Refused 19
-  pub most-thousandths : price settled 7 (part 3 (pos 1000)) ≡ Of (pos 14) 0
-  pub thousandths-over : price settled 7 (part 3 (pos 1001)) ≡ Refused 19
-  pub least-thousandths : price settled 7 (part 3 (minus 1000)) ≡ Of (pos 0) 0
-  pub thousandths-under : price settled 7 (part 3 (minus 1001)) ≡ Refused 19
-  pub first-literal : price settled 7 (amount 2 (pos 1)) ≡ Of (pos 7) 0
-  pub literal-under : price settled 7 (amount 1 (pos 1)) ≡ Refused 19
-  pub last-literal : price settled 7 (amount 9 (pos 1)) ≡ Of (pos 8) 0
-  pub literal-over : price settled 7 (amount 10 (pos 1)) ≡ Refused 19
-  pub literal-negative : price settled 7 (minus 2 ∷ pos 0 ∷ pos 1 ∷ []) ≡ Refused 19
-  pub false-line-over : price settled 7 (amount 2 (pos 10000001)) ≡ Refused 19
+  pub largest-base : price assigned 1000000000 [] ≡ Of (pos 1000000000) 0
+  pub base-over : price assigned 1000000001 [] ≡ Refused 19
+  pub base-under : premiumAnswer book assigned (minus 1) [] ≡ Refused 19
+  pub largest-amount : price assigned 0 (amount 3 (pos 10000000)) ≡ Of (pos 10000000) 0
+  pub amount-over : price assigned 0 (amount 3 (pos 10000001)) ≡ Refused 19
+  pub least-amount : price assigned 0 (amount 3 (minus 10000000)) ≡ Of (minus 10000000) 0
+  pub amount-under : price assigned 0 (amount 3 (minus 10000001)) ≡ Refused 19
+  pub most-thousandths : price assigned 7 (part 3 (pos 1000)) ≡ Of (pos 14) 0
+  pub thousandths-over : price assigned 7 (part 3 (pos 1001)) ≡ Refused 19
+  pub least-thousandths : price assigned 7 (part 3 (minus 1000)) ≡ Of (pos 0) 0
+  pub thousandths-under : price assigned 7 (part 3 (minus 1001)) ≡ Refused 19
+  pub first-literal : price assigned 7 (amount 2 (pos 1)) ≡ Of (pos 7) 0
+  pub literal-under : price assigned 7 (amount 1 (pos 1)) ≡ Refused 19
+  pub last-literal : price assigned 7 (amount 9 (pos 1)) ≡ Of (pos 8) 0
+  pub literal-over : price assigned 7 (amount 10 (pos 1)) ≡ Refused 19
+  pub literal-negative : price assigned 7 (minus 2 ∷ pos 0 ∷ pos 1 ∷ []) ≡ Refused 19
+  pub false-line-over : price assigned 7 (amount 2 (pos 10000001)) ≡ Refused 19
   -- 19: more than 200 lines, another kind, no whole line.
-  pub most-lines : price settled 0 (several 200 (amount 3 (pos 1))) ≡ Of (pos 200) 0
-  pub lines-over : price settled 0 (several 201 (amount 3 (pos 1))) ≡ Refused 19
-  pub kind-over : price settled 7 (pos 3 ∷ pos 2 ∷ pos 1 ∷ []) ≡ Refused 19
-  pub kind-under : price settled 7 (pos 3 ∷ minus 1 ∷ pos 1 ∷ []) ≡ Refused 19
-  pub one-number : price settled 7 (pos 3 ∷ []) ≡ Refused 19
-  pub two-numbers : price settled 7 (amount 3 (pos 1) ++ (pos 3 ∷ pos 0 ∷ [])) ≡ Refused 19
+  pub most-lines : price assigned 0 (several 200 (amount 3 (pos 1))) ≡ Of (pos 200) 0
+  pub lines-over : price assigned 0 (several 201 (amount 3 (pos 1))) ≡ Refused 19
+  pub kind-over : price assigned 7 (pos 3 ∷ pos 2 ∷ pos 1 ∷ []) ≡ Refused 19
+  pub kind-under : price assigned 7 (pos 3 ∷ minus 1 ∷ pos 1 ∷ []) ≡ Refused 19
+  pub one-number : price assigned 7 (pos 3 ∷ []) ≡ Refused 19
+  pub two-numbers : price assigned 7 (amount 3 (pos 1) ++ (pos 3 ∷ pos 0 ∷ [])) ≡ Refused 19
   -- The order: 11, 12, 14, 19, 20.
-  pub book-first : premiumAnswer (set book 0 0) (set settled lengthAt 9) (minus 1) [] ≡ Refused 11
-  pub session-second : premiumAnswer book (set settled lengthAt 9) (minus 1) [] ≡ Refused 12
+  pub book-first : premiumAnswer (set book 0 0) (set assigned lengthAt 9) (minus 1) [] ≡ Refused 11
+  pub session-second : premiumAnswer book (set assigned lengthAt 9) (minus 1) [] ≡ Refused 12
   pub conflict-third : premiumAnswer (numbersOf opposed) (encode opposed (openRun opposed)) (minus 1) [] ≡ Refused 14
-  pub range-before-limit : price settled 976562500 (several 10 (part 3 (pos 1000)) ++ (amount 3 (pos 1) ++ amount 10 (pos 1))) ≡ Refused 19
+  pub range-before-limit : price assigned 976562500 (several 10 (part 3 (pos 1000)) ++ (amount 3 (pos 1) ++ amount 10 (pos 1))) ≡ Refused 19
 
 pub points : Points
 unfolding several literalOf changeOf linesOf isKind areLines changeWithin lineWithin listWithin baseWithin rounded applied limited stepped pricedBy openLines priceRefusal premiumAnswer any distinct times table upTo soundClause sound starts numbersOf clausesFrom rising wellFormed valueNumber levelNumber nodeOf watchLiteral firstNode behind headNumber linkNumber watchNumber encode levelBefore heldTrail heldCells chainFrom heldLists held hasReason isJustified isWatching isGuarded watchesHold isFixpoint isConflict isListed isValid passes callRefusal all flat member same literalWithin opposite place literalAt isTrue decisions level lowered cut watched next oneMore scanFrom scan pushFront without takeOut addChecks otherWatch moved scannedAction withConflict action onTrail withWatches counted performAction visit readList propagateFrom firstCell watchAll fresh assignUnit assignUnits openRun decide decideRefusal refusal performCall step stepAll reference keep
@@ -135,7 +135,7 @@ points =
       worked = refl;
       worked-steps = refl;
       turned = refl;
-      half-settled = refl;
+      begun-only = refl;
       amount-first = refl;
       change-first = refl;
       below = refl;

@@ -46,10 +46,10 @@ module _ (book session : List ℕ) where
   run = held (formulaOf book) session
 
   -- what is refused before the base and the lines are looked at
-  abbrev settled : ℕ
-  settled = callRefusal book session (λ (r : Run). cond (inConflict r) 14 0)
+  abbrev sessionRefusal : ℕ
+  sessionRefusal = callRefusal book session (λ (r : Run). cond (inConflict r) 14 0)
 
-  pub figures-refuse : (n : ℕ) → shown.Refused n ≡ figuresAnswer book session → n ≡ settled
+  pub figures-refuse : (n : ℕ) → shown.Refused n ≡ figuresAnswer book session → n ≡ sessionRefusal
   unfolding figuresAnswer
   figures-refuse n e =
       let told = outcome-refused (readRefusal book session) run n (shown-refused n _ e) in
@@ -63,17 +63,17 @@ module _ (book session : List ℕ) where
         let of-run = outcome-accepted (readRefusal book session) run (told .0) (told .1) in
         (of-run .0, told .2 ∙ sym (ap (λ (r : Run). r .conflict) (of-run .1)))
 
-    pub figures-conflict : (c ≡ 0 → ⊥) → 14 ≡ settled
+    pub figures-conflict : (c ≡ 0 → ⊥) → 14 ≡ sessionRefusal
     figures-conflict h = sym (own-refusal book session (figures-tell .0) (λ (r : Run). cond (inConflict r) 14 0) ∙ rw (← figures-tell .1, ne-eqb c 0 h))
 
-    pub figures-quiet : c ≡ 0 → 0 ≡ settled
+    pub figures-quiet : c ≡ 0 → 0 ≡ sessionRefusal
     figures-quiet z = sym (own-refusal book session (figures-tell .0) (λ (r : Run). cond (inConflict r) 14 0) ∙ rw (quiet-out run (sym (figures-tell .1) ∙ z)))
 
   module _ (base : ℤ) (numbers : List ℤ) where
     abbrev right : Bool
     right = baseWithin base && listWithin (variablesOf book) numbers
 
-    pub refused-before : (n : ℕ) → n ≡ settled → (n ≡ 0 → ⊥) → n ≡ priceRefusal book session base numbers
+    pub refused-before : (n : ℕ) → n ≡ sessionRefusal → (n ≡ 0 → ⊥) → n ≡ priceRefusal book session base numbers
     unfolding priceRefusal callRefusal
     refused-before n e h = go (wellFormed book) (passes (formulaOf book) session) (inConflict run) e
       where
@@ -83,7 +83,7 @@ module _ (book session : List ℕ) where
         go true false c q = q
         go false p c q = q
 
-    module _ (quiet : 0 ≡ settled) where
+    module _ (quiet : 0 ≡ sessionRefusal) where
       own : cond right 0 19 ≡ priceRefusal book session base numbers
       unfolding priceRefusal callRefusal
       own = go (wellFormed book) (passes (formulaOf book) session) (inConflict run) quiet
@@ -105,15 +105,15 @@ module _ (book session : List ℕ) where
       none-outside b l = rw (← b, ← l) at own
 
     -- what is known where nothing is refused before the first line
-    pub record Settled : Type 0 where
+    pub record Accepted : Type 0 where
       pub passed : readRefusal book session ≡ 0
       pub out : run .conflict ≡ 0
       pub base-right : baseWithin base ≡ true
       pub list-right : listWithin (variablesOf book) numbers ≡ true
 
-    pub settled-price : 0 ≡ priceRefusal book session base numbers → Settled
+    pub accepted-price : 0 ≡ priceRefusal book session base numbers → Accepted
     unfolding priceRefusal
-    settled-price e =
+    accepted-price e =
         let none = none-first book session (λ (r : Run). cond (inConflict r) 14 (cond right 0 19)) e in
         let parts = go (inConflict run) right (e ∙ own-refusal book session none (λ (r : Run). cond (inConflict r) 14 (cond right 0 19))) in
         let both = and-parts (baseWithin base) (listWithin (variablesOf book) numbers) (parts .1) in

@@ -36,7 +36,7 @@ use Rattle.rating.specs.declared.Priced.the-variants.{At, Beyond}
 use Rattle.rating.specs.declared.RateLine.{RateLine}
 use Rattle.rating.specs.declared.Premium.the-variants.{Of}
 use Rattle.rating.proofs.PricingLaws.{Small, at-small, priced-small, priced-append, priced-beyond, openLine, open-first, open-few, priced-alike, open-alike, list-parts, line-parts}
-use Rattle.rating.proofs.AnswerLaws.{base-small, settled-price, answered}
+use Rattle.rating.proofs.AnswerLaws.{base-small, accepted-price, answered}
 
 -- a literal's variable is assigned where the other sign of it says so
 either-sign : (trail : List Entry) (l : ℕ) → isAssigned trail (positive (variableOf l)) ≡ true → isAssigned trail l ≡ true
@@ -73,8 +73,8 @@ module _ (book session : List ℕ) (base : ℤ) (numbers : List ℤ) where
   pub amount-bounded : (amount : ℤ) (n : ℕ) → premiumAnswer book session base numbers ≡ Of amount n → Bounded book session base numbers amount n
   amount-bounded amount n e =
       let told = answered book session base numbers amount n e in
-      let settled = settled-price book session base numbers (told .0) in
-      let small = at-small base (base-small base (settled .base-right)) in
+      let known = accepted-price book session base numbers (told .0) in
+      let small = at-small base (base-small base (known .base-right)) in
       let whole : after book session base numbers (length lines) ≡ At amount
       = ap (pricedBy (isTrue (run .trail)) (At base)) (take-all (length lines) lines (omega arith)) ∙ told .1 in
       record {
@@ -85,7 +85,7 @@ module _ (book session : List ℕ) (base : ℤ) (numbers : List ℤ) where
         last = whole;
         amount-within = priced-small (isTrue (run .trail)) lines (At base) small amount (told .1);
         few-open = omega (arith, told .2, open-few (isTrue (run .trail)) lines);
-        few-lines = list-parts (variablesOf book) numbers (settled .list-right) .1;
+        few-lines = list-parts (variablesOf book) numbers (known .list-right) .1;
       }
     where
       go : (rest : List RateLine) (state : Priced) {now : Priced} → now ≡ state → pricedBy (isTrue (run .trail)) now rest ≡ At amount → Small now
@@ -102,8 +102,8 @@ module _ (book session : List ℕ) (base : ℤ) (numbers : List ℤ) where
       → premiumAnswer book session base numbers ≡ offered (openLines holds lines) (pricedBy holds (At base) lines)
   unfolding premiumAnswer
   price-by-closure e holds by-closure =
-      let settled = settled-price book session base numbers e in
-      let closed = statement-2 book session (settled .passed) .closure (settled .out) in
+      let known = accepted-price book session base numbers e in
+      let closed = statement-2 book session (known .passed) .closure (known .out) in
       let agree : (l : ℕ) → isTrue (run .trail) l ≡ holds l
       = λ l. same-test (isTrue (run .trail) l) (holds l) (λ t. by-closure l .1 (closed l .0 t)) (λ t. closed l .1 (by-closure l .0 t)) in
       rw (← e) (ap₂ offered (open-alike (isTrue (run .trail)) holds agree lines) (priced-alike (isTrue (run .trail)) holds agree lines (At base)))
@@ -113,14 +113,14 @@ module _ (book session : List ℕ) (base : ℤ) (numbers : List ℤ) where
       → ((v : ℕ) → 1 ≤ v → v ≤ variablesOf book → lookupAnswer book session v ≡ assigned.Open → ⊥) → n ≡ 0
   all-assigned amount n e none-open =
       let told = answered book session base numbers amount n e in
-      let settled = settled-price book session base numbers (told .0) in
+      let known = accepted-price book session base numbers (told .0) in
       let closed : (l : ℕ) → literalWithin (variablesOf book) l ≡ true → isAssigned (run .trail) l ≡ true
       = λ l within.
       let parts = literal-parts (variablesOf book) l within in
       let low : 1 ≤ variableOf l = omega (arith, parts .0) in
       let high : variableOf l ≤ variablesOf book = omega (arith, parts .1) in
-      either-sign (run .trail) l (shown-assigned book session (sym (settled .passed)) (variableOf l) low high (none-open (variableOf l) low high)) in
-      sym (told .2) ∙ none-unassigned (isTrue (run .trail)) (variablesOf book) closed lines (list-parts (variablesOf book) numbers (settled .list-right) .2)
+      either-sign (run .trail) l (shown-assigned book session (sym (known .passed)) (variableOf l) low high (none-open (variableOf l) low high)) in
+      sym (told .2) ∙ none-unassigned (isTrue (run .trail)) (variablesOf book) closed lines (list-parts (variablesOf book) numbers (known .list-right) .2)
 
 -- what a session that passes is answered
 own-answer : (book session : List ℕ) (base : ℤ) (numbers : List ℤ) → 0 ≡ readRefusal book session

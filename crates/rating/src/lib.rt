@@ -1,4 +1,4 @@
-// Premium in cents (request K1): a rate list is applied to what a session has settled.
+// Premium in cents (request K1): a rate list is applied to what is assigned (the paper's settled) in a session.
 mod lines;
 mod running;
 mod signed;
@@ -34,7 +34,7 @@ pub struct RateLine {
 }
 
 // The running amount in cents, or that it went beyond its limit after a line.
-pub enum Priced {
+enum Priced {
     At(i64),
     Beyond,
 }
@@ -45,8 +45,8 @@ pub enum Premium {
     Refused(u32),
 }
 
-// The refusals that come before the lines: 11, 12, and 14 in conflict; 0 where the session is settled.
-fn settled_refusal(book: &[u32], session: &[u32]) -> u32
+// The refusals that come before the base and the lines: 11, 12, and 14 in conflict; 0 where none of them applies.
+fn session_refusal(book: &[u32], session: &[u32]) -> u32
     ensures { λ r. ⌜ r ≡ callRefusal (now (book .entry)) (now (session .entry)) (λ (run : Run). cond (inConflict run) 14 0) ⌝ }
 {
     match session::figures(book, session) {
@@ -78,7 +78,7 @@ fn base_within(base: i64) -> bool
 fn price_refusal(book: &[u32], session: &[u32], base: i64, lines: &[i32]) -> u32
     ensures { λ r. ⌜ r ≡ priceRefusal (now (book .entry)) (now (session .entry)) base (now (lines .entry)) ⌝ }
 {
-    let refused = settled_refusal(book, session);
+    let refused = session_refusal(book, session);
     if refused != 0 {
         return refused;
     }
@@ -106,7 +106,7 @@ fn premium_of(book: &[u32], session: &[u32], start: i64, lines: &[i32]) -> Premi
     }
 }
 
-// Prices a settled session on a book, by a base in cents and a rate list, three numbers a line: literal, 0 or 1, amount or thousandths.
+// Prices a session on a book by a base in cents and a rate list, three numbers a line: literal, 0 or 1, amount or thousandths.
 pub fn price(book: &[u32], session: &[u32], base: i64, lines: &[i32]) -> Premium
     ensures { λ r. ⌜ r ≡ premiumAnswer (now (book .entry)) (now (session .entry)) base (now (lines .entry)) ⌝ }
 {

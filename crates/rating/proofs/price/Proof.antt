@@ -9,7 +9,7 @@ use Rattle.book.specs.Numbers.{formulaOf}
 use Rattle.layout.specs.Layout.{held}
 use Rattle.session.specs.Outcomes.{accepted}
 use Rattle.rating.specs.Pricing.{linesOf, priceRefusal, premiumOf}
-use Rattle.rating.proofs.AnswerLaws.{base-small, settled-price, answers-refused, answers-premium}
+use Rattle.rating.proofs.AnswerLaws.{base-small, accepted-price, answers-refused, answers-premium}
 use Rattle.rating.proofs.price.Statement.{statement}
 use Rattle.rating.proofs.price.Tie as tie
 
@@ -34,8 +34,8 @@ returns c = answers-refused _ _ _ _ _ (told (c .before)) (c .if1 .taken)
 premium-of-requires : tie.Need-premium-of-requires
 premium-of-requires c κs =
     let entry = c .before .before .before .before in
-    let settled = settled-price _ _ _ _ (sym (c .if1 .left) ∙ told (c .before)) in
-    ((settled .passed, settled .list-right), rw (base-is entry) (base-small _ (settled .base-right)))
+    let known = accepted-price _ _ _ _ (sym (c .if1 .left) ∙ told (c .before)) in
+    ((known .passed, known .list-right), rw (base-is entry) (base-small _ (known .base-right)))
 
 returns-2 : tie.Need-returns-2
 returns-2 c =

@@ -16,18 +16,18 @@ use Rattle.rating.proofs.AnswerLaws.{refused-before, base-outside, list
 use Rattle.rating.proofs.price_refusal.Statement.{statement}
 use Rattle.rating.proofs.price_refusal.Tie as tie
 
-settled-refusal-requires : tie.Need-settled-refusal-requires
-settled-refusal-requires c κs = search needs
+session-refusal-requires : tie.Need-session-refusal-requires
+session-refusal-requires c κs = search needs
 
 returns : tie.Need-returns
-returns c = refused-before _ _ _ _ _ (c .before .settled-refusal .ensures) (c .if1 .taken)
+returns c = refused-before _ _ _ _ _ (c .before .session-refusal .ensures) (c .if1 .taken)
 
 base-within-requires : tie.Need-base-within-requires
 base-within-requires c κs = search needs
 
--- the session is settled
+-- the session passes and is out of conflict
 quiet : (c : tie.Else1) → 0 ≡ callRefusal (c .before .before .before .before .args .book .now) (c .before .before .before .before .args .session .now) (λ (run : Run). cond (inConflict run) 14 0)
-quiet c = sym (c .if1 .left) ∙ c .before .settled-refusal .ensures
+quiet c = sym (c .if1 .left) ∙ c .before .session-refusal .ensures
 
 -- the base as it is handed on
 base-told : (c : tie.After-base-within) → c .base-within .result ≡ baseWithin (c .before .before .before .before .before .args .base)
@@ -43,8 +43,8 @@ variables-requires c κs = search needs
 
 list-within-requires : tie.Need-list-within-requires
 list-within-requires c κs =
-    let settled = c .before .before .before in
-    omega (arith, c .variables .ensures, few-variables _ _ (none-first _ _ (λ (run : Run). cond (inConflict run) 14 0) (quiet settled)))
+    let passed = c .before .before .before in
+    omega (arith, c .variables .ensures, few-variables _ _ (none-first _ _ (λ (run : Run). cond (inConflict run) 14 0) (quiet passed)))
 
 -- the list
 list-told : (c : tie.After-list-within) →
@@ -68,7 +68,7 @@ pub price-refusal-spec : {M : Type 1} → statement M
 price-refusal-spec =
     tie.close
     (tie.spec
-    settled-refusal-requires
+    session-refusal-requires
     returns
     base-within-requires
     returns-2

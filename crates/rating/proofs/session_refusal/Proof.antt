@@ -1,9 +1,9 @@
--- `settled_refusal` meets its contract. Assumes nothing.
+-- `session_refusal` meets its contract. Assumes nothing.
 use mathlib.Core.Path.{sym, _∙_}
 use borrow.Author.Needs.{needs}
 use Rattle.rating.proofs.AnswerLaws.{figures-refuse, figures-conflict, figures-quiet}
-use Rattle.rating.proofs.settled_refusal.Statement.{statement}
-use Rattle.rating.proofs.settled_refusal.Tie as tie
+use Rattle.rating.proofs.session_refusal.Statement.{statement}
+use Rattle.rating.proofs.session_refusal.Tie as tie
 
 figures-requires : tie.Need-figures-requires
 figures-requires c κs = search needs
@@ -27,7 +27,7 @@ returns-3 c =
     let field = c .before .before .conflict .given in
     figures-quiet _ _ _ _ _ _ (sym (field .1) ∙ c .before .before .before .before .figures .ensures) (c .if1 .left)
 
-pub settled-refusal-spec : {M : Type 1} → statement M
-settled-refusal-spec =
+pub session-refusal-spec : {M : Type 1} → statement M
+session-refusal-spec =
     tie.close
     (tie.spec figures-requires enum-known-number enum-known-conflict returns returns-2 returns-3)
