@@ -54,14 +54,15 @@ static inline uint32_t tariff_filed(uint64_t answer) { return answer == 1; }
 #define TARIFF_QUOTED_BACK_LINES 2 /* how many lines `b k` the script has, accepted or not: `b`, one blank, 1 to 9 digits, nothing more */
 #define TARIFF_QUOTED 3
 
-/* A rate list has three numbers for each line: its literal, TARIFF_AMOUNT or TARIFF_THOUSANDTHS, and the amount in cents or the change. */
-#define TARIFF_LINE 3
+/* A rate list has three numbers for each line: its literal, 2 to 2 x V + 1 for a book of V features; TARIFF_AMOUNT or TARIFF_THOUSANDTHS; and the
+ * amount in cents or the change in thousandths. */
+#define TARIFF_LINE_NUMBERS 3
 #define TARIFF_AMOUNT 0
 #define TARIFF_THOUSANDTHS 1
 
-/* The most of a rate list: lines, cents of an amount and thousandths of a change on either side of zero, cents of the base; and how far from zero the
- * running amount may get. */
-#define TARIFF_LINES 200
+/* The most of a rate list: lines; cents of an amount and thousandths of a change, above zero and below; cents of the base, which is at least 0; and
+ * cents of the running amount, above zero and below. */
+#define TARIFF_MOST_LINES 200
 #define TARIFF_MOST_AMOUNT 10000000
 #define TARIFF_MOST_THOUSANDTHS 1000
 #define TARIFF_MOST_BASE 1000000000
@@ -157,8 +158,8 @@ uint64_t tariff_quote(const uint32_t *book, size_t book_length, const uint8_t *s
 /* The premium in cents from what the session has settled. From `base` on, the lines of the rate list apply in list order where their literal is true: a line
  * adds its amount, or running amount x thousandths / 1000, rounded to the nearest cent, halves away from zero.
  * Accepted: the number of lines whose feature is open. Writes the final amount to *amount.
- * Refuses: 11, 12; 14 in contradiction; then 19 where the base or any line is outside its range, applied or not, `lines` is no whole number of
- * lines or has over 200; then 20 where the running amount is beyond TARIFF_MOST_RUNNING after a line, on either side of zero. */
+ * Refuses: 11, 12; 14 in contradiction; then 19 where the base or a line, whether it applies or not, is outside its range above, a line is of another kind
+ * than the two, or `lines` has over 200 lines or is no whole number of them; then 20 where the running amount is beyond its own after a line. */
 uint64_t tariff_price(const uint32_t *book, size_t book_length, const uint32_t *session, size_t session_length,
                       int64_t base, const int32_t *lines, size_t lines_length, int64_t *amount);
 

@@ -62,7 +62,7 @@ limits_of_the_crates() {
     echo "TARIFF_BOOK $((clauses + literals + 4))"
     echo "TARIFF_CHAPTERS $(limit CHAPTERS)"
     echo "TARIFF_FEATURES $variables"
-    echo "TARIFF_LINES $(limit MAX_LINES)"
+    echo "TARIFF_MOST_LINES $(limit MAX_LINES)"
     echo "TARIFF_MOST_AMOUNT $(limit MAX_AMOUNT)"
     echo "TARIFF_MOST_BASE $(limit MAX_BASE)"
     echo "TARIFF_MOST_RUNNING $(limit MAX_RUNNING)"
@@ -178,8 +178,8 @@ notices "$header" tariff_price 's/int64_t \*amount/const &/'
 notices "$header" tariff_price 's/int64_t \*amount/&, size_t amount_length/'
 notices "$header" tariff_price 's/(int64_t base), (const int32_t \*lines, size_t lines_length)/\2, \1/'
 notices "$header" tariff_price 's/(const int32_t \*lines, size_t lines_length), (int64_t \*amount)/\2, \1/'
-notices "$header" TARIFF_LINES '/define TARIFF_LINES/s/200/201/'
-notices "$header" TARIFF_LINES '/define TARIFF_LINES/d'
+notices "$header" TARIFF_MOST_LINES '/define TARIFF_MOST_LINES/s/200/201/'
+notices "$header" TARIFF_MOST_LINES '/define TARIFF_MOST_LINES/d'
 notices "$header" TARIFF_MOST_AMOUNT '/define TARIFF_MOST_AMOUNT/s/$/0/'
 notices "$header" TARIFF_MOST_THOUSANDTHS '/define TARIFF_MOST_THOUSANDTHS/s/1000/-1000/'
 notices "$header" TARIFF_MOST_BASE 's/^#define TARIFF_MOST_BASE.*/&\n#undef TARIFF_MOST_BASE/'

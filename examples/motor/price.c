@@ -7,8 +7,8 @@ enum { STEP = 42, LINE = 78, AMOUNT = 12 };
 
 static int64_t base;
 static size_t count; /* how many lines there are */
-static const char *names[TARIFF_LINES];
-static int32_t lines[TARIFF_LINES * TARIFF_LINE];
+static const char *names[TARIFF_MOST_LINES];
+static int32_t lines[TARIFF_MOST_LINES * TARIFF_LINE_NUMBERS];
 
 static void read_base(const char *line) {
     long long cents;
@@ -19,8 +19,8 @@ static void read_base(const char *line) {
 
 /* A feature stands for its literal, wanted, or with `-` in front barred, as in a script. */
 static void add_line(const char *name, int feature, int32_t kind, int32_t value) {
-    int32_t *line = lines + TARIFF_LINE * count;
-    if (count == TARIFF_LINES) fail("the rate list has more than 200 lines");
+    int32_t *line = lines + TARIFF_LINE_NUMBERS * count;
+    if (count == TARIFF_MOST_LINES) fail("the rate list has more than 200 lines");
     names[count++] = name;
     line[0] = (int32_t)(feature < 0 ? tariff_barred((uint32_t)-feature) : tariff_wanted((uint32_t)feature));
     line[1] = kind;
@@ -55,7 +55,7 @@ static void read_rates(const char *path) {
 
 /* Whether there is a premium, which there is not in contradiction; by the first lines alone, with how many of them are open. */
 static int price(size_t first, int64_t *amount, uint32_t *open) {
-    uint64_t answer = tariff_price(book, TARIFF_BOOK, session, needed, base, lines, TARIFF_LINE * first, amount);
+    uint64_t answer = tariff_price(book, TARIFF_BOOK, session, needed, base, lines, TARIFF_LINE_NUMBERS * first, amount);
     *open = tariff_number(answer);
     if (tariff_kind(answer) == TARIFF_ACCEPTED) return 1;
     if (tariff_number(answer) == 19) fail("the base or a line of the rate list is outside its range (19)");
@@ -112,7 +112,7 @@ static const char *state_of(const int32_t *line) {
 }
 
 static void say_line(size_t i) {
-    const int32_t *line = lines + TARIFF_LINE * i;
+    const int32_t *line = lines + TARIFF_LINE_NUMBERS * i;
     printf("  %-30s %4d  %-11s", names[i], line[0] % 2 == 1 ? -(line[0] / 2) : line[0] / 2, line[1] == TARIFF_AMOUNT ? "amount" : "thousandths");
     say_signed(line[2], 11);
     printf("   %-14s", state_of(line));

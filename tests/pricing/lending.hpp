@@ -12,7 +12,7 @@ using Rates = std::vector<int32_t>;  // three numbers for each line
 
 constexpr size_t LINE = 3;
 constexpr int32_t AMOUNT = 0, THOUSANDTHS = 1;
-static_assert(TARIFF_LINE == LINE && TARIFF_AMOUNT == AMOUNT && TARIFF_THOUSANDTHS == THOUSANDTHS);
+static_assert(TARIFF_LINE_NUMBERS == LINE && TARIFF_AMOUNT == AMOUNT && TARIFF_THOUSANDTHS == THOUSANDTHS);
 
 struct Line {
     int32_t literal = 0, kind = 0, value = 0;

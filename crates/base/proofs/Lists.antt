@@ -10,7 +10,7 @@ use borrow.Author.Tests.{eqb-true, eqb-false, eq-eqb, ne-eqb, ltb-true, ltb-fals
 use lib.Dec.{eqb, ltb}
 use lib.ListN.{length, getD, take, drop, set, replicate, length-append, length-drop, drop-of-length-le}
 use lib.Seq.{take-add, take-all, take-nil, drop-cons, drop-drop, length-take-le, getD-set-same, getD-set-other, set-out}
-use Rattle.base.specs.Lists.{all, flat, empty, begins}
+use Rattle.base.specs.Lists.{all, flat, empty, begins, Reordered, unmoved, swapped, behind, further}
 use Rattle.base.proofs.Bools.{and-parts}
 
 -- where all elements are alike, and so is the default, every place gives the same
@@ -176,3 +176,24 @@ begins-at b xs i h = rw (drop-cons xs i 0 h)
 pub begins-end : (b : ℕ) (xs : List ℕ) (i : ℕ) → length xs ≤ i → begins b (drop i xs) ≡ false
 unfolding begins
 begins-end b xs i h = rw (drop-of-length-le xs h)
+
+-- the same elements, in any order
+module _ {A : Type 0} where
+  pub length-reordered : {xs ys : List A} → Reordered xs ys → length xs ≡ length ys
+  length-reordered unmoved = refl
+  length-reordered swapped = refl
+  length-reordered (behind r) = omega (arith, length-reordered r)
+  length-reordered (further r s) = length-reordered r ∙ length-reordered s
+
+  pub all-reordered : (p : A → Bool) {xs ys : List A} → Reordered xs ys → all p xs ≡ all p ys
+  unfolding all
+  all-reordered p unmoved = refl
+  all-reordered p (swapped {x = x} {y = y} {xs = xs}) = go (p x) (p y) (all p xs)
+    where
+      go : (a b c : Bool) → (a && (b && c)) ≡ (b && (a && c))
+      go true true c = refl
+      go true false c = refl
+      go false true c = refl
+      go false false c = refl
+  all-reordered p (behind {x = x} r) = ap (λ (b : Bool). p x && b) (all-reordered p r)
+  all-reordered p (further r s) = all-reordered p r ∙ all-reordered p s

@@ -89,7 +89,7 @@ sum (x ∷ xs) = x + sum xs
 unfoldable pub copied : List ℕ → List ℕ → List ℕ
 copied source buffer = take (length buffer) source ++ drop (length source) buffer
 
--- the same elements in another order
+-- the same elements, in any order
 pub data Reordered {A : Type 0} : List A → List A → Type 0 where
   unmoved : {xs : List A} → Reordered xs xs
   swapped : {x y : A} {xs : List A} → Reordered (x ∷ y ∷ xs) (y ∷ x ∷ xs)

@@ -110,9 +110,9 @@ ceilingAfter (quote.Refused number) before = before
 
 -- a premium: how many lines are open, or the refusal; the amount goes to a place of its own, and a refusal leaves that as it is
 abbrev pub premiumCode : Premium → ℕ
-premiumCode (premium.Of amount unassigned) = unassigned
+premiumCode (premium.Of amount count) = count
 premiumCode (premium.Refused number) = refusalCode number
 
 abbrev pub amountAfter : Premium → ℤ → ℤ
-amountAfter (premium.Of amount unassigned) before = amount
+amountAfter (premium.Of amount count) before = amount
 amountAfter (premium.Refused number) before = before

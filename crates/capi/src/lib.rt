@@ -274,10 +274,10 @@ pub extern "C" fn tariff_price(
     match rating::price(book, session, base, lines) {
         rating::Premium::Of {
             amount: cents,
-            unassigned,
+            open_lines,
         } => {
             *amount = cents;
-            unassigned as u64
+            open_lines as u64
         }
         rating::Premium::Refused(number) => refusal(number),
     }

@@ -19,7 +19,7 @@ use Rattle.session.specs.Outcomes.{accepted, refused, figuresAnswer}
 use Rattle.session.specs.declared.Shown.the-variants as shown
 use Rattle.session.proofs.ToldLaws.{outcome-accepted, outcome-refused, shown-refused, shown-conflict}
 use Rattle.session.proofs.PassedLaws.{refused-first, none-first, own-refusal}
-use Rattle.rating.specs.Pricing.{maxBase, maxRunning, baseWithin, listWithin, linesOf, pricedBy, openLines, offered, premiumOf, priceRefusal, premiumAnswer}
+use Rattle.rating.specs.Pricing.{maxBase, maxRunning, baseWithin, listWithin, linesOf, pricedBy, openLines, offered, premiumOf, ratesWithin, runRefusal, priceRefusal, premiumAnswer}
 use Rattle.rating.specs.declared.Premium.{Premium}
 use Rattle.rating.specs.declared.Premium.the-variants.{Of, Refused}
 use Rattle.rating.specs.declared.Priced.{Priced}
@@ -47,13 +47,13 @@ module _ (book session : List ℕ) where
 
   -- what is refused before the base and the lines are looked at
   abbrev sessionRefusal : ℕ
-  sessionRefusal = callRefusal book session (λ (r : Run). cond (inConflict r) 14 0)
+  sessionRefusal = callRefusal book session (runRefusal true)
 
   pub figures-refuse : (n : ℕ) → shown.Refused n ≡ figuresAnswer book session → n ≡ sessionRefusal
   unfolding figuresAnswer
   figures-refuse n e =
       let told = outcome-refused (readRefusal book session) run n (shown-refused n _ e) in
-      refused-first book session (λ (r : Run). cond (inConflict r) 14 0) n (sym (told .0)) (λ z. eqb-false _ 0 (told .1) (told .0 ∙ z))
+      refused-first book session (runRefusal true) n (sym (told .0)) (λ z. eqb-false _ 0 (told .1) (told .0 ∙ z))
 
   module _ (d b t c : ℕ) (e : shown.Of d b t c ≡ figuresAnswer book session) where
     figures-tell : (0 ≡ readRefusal book session) × (c ≡ run .conflict)
@@ -64,14 +64,14 @@ module _ (book session : List ℕ) where
         (of-run .0, told .2 ∙ sym (ap (λ (r : Run). r .conflict) (of-run .1)))
 
     pub figures-conflict : (c ≡ 0 → ⊥) → 14 ≡ sessionRefusal
-    figures-conflict h = sym (own-refusal book session (figures-tell .0) (λ (r : Run). cond (inConflict r) 14 0) ∙ rw (← figures-tell .1, ne-eqb c 0 h))
+    figures-conflict h = sym (own-refusal book session (figures-tell .0) (runRefusal true) ∙ rw (← figures-tell .1, ne-eqb c 0 h))
 
     pub figures-quiet : c ≡ 0 → 0 ≡ sessionRefusal
-    figures-quiet z = sym (own-refusal book session (figures-tell .0) (λ (r : Run). cond (inConflict r) 14 0) ∙ rw (quiet-out run (sym (figures-tell .1) ∙ z)))
+    figures-quiet z = sym (own-refusal book session (figures-tell .0) (runRefusal true) ∙ rw (quiet-out run (sym (figures-tell .1) ∙ z)))
 
   module _ (base : ℤ) (numbers : List ℤ) where
     abbrev right : Bool
-    right = baseWithin base && listWithin (variablesOf book) numbers
+    right = ratesWithin book base numbers
 
     pub refused-before : (n : ℕ) → n ≡ sessionRefusal → (n ≡ 0 → ⊥) → n ≡ priceRefusal book session base numbers
     unfolding priceRefusal callRefusal
@@ -114,8 +114,8 @@ module _ (book session : List ℕ) where
     pub accepted-price : 0 ≡ priceRefusal book session base numbers → Accepted
     unfolding priceRefusal
     accepted-price e =
-        let none = none-first book session (λ (r : Run). cond (inConflict r) 14 (cond right 0 19)) e in
-        let parts = go (inConflict run) right (e ∙ own-refusal book session none (λ (r : Run). cond (inConflict r) 14 (cond right 0 19))) in
+        let none = none-first book session (runRefusal right) e in
+        let parts = go (inConflict run) right (e ∙ own-refusal book session none (runRefusal right)) in
         let both = and-parts (baseWithin base) (listWithin (variablesOf book) numbers) (parts .1) in
         record { passed = sym none; out = out-quiet run (parts .0); base-right = both .0; list-right = both .1 }
       where

@@ -1,43 +1,37 @@
--- Lines with an amount may stand in any order.
-use Prim.Native.Nat.{ℕ}
+-- Lines with amounts may stand in any order.
+use Prim.Native.Nat.{ℕ, _+_, _*_, _≤_}
 use mathlib.Core.Bool.{Bool, true, false, cond, _&&_}
 use mathlib.Core.List.{List, [], _∷_}
 use mathlib.Core.Path.{_≡_, refl, sym, ap, _∙_}
 use native.Mathlib.Omega.{arith}
-use lib.Dec.{leb}
-use lib.IntN.{ℤ, pos, natAbs, _+ℤ_, +ℤ-idr, +ℤ-assoc, +ℤ-comm}
+use borrow.Author.Tests.{leb-true}
+use lib.IntN.{ℤ, pos, negsuc, natAbs, _+ℤ_, +ℤ-idr, +ℤ-assoc, +ℤ-comm}
+use lib.ListN.{length}
 use Rattle.base.specs.Lists.{all, Reordered, unmoved, swapped, behind, further}
 use Rattle.base.proofs.Bools.{and-parts, never}
-use Rattle.book.specs.Numbers.{formulaOf}
+use Rattle.base.proofs.Lists.{length-reordered, all-reordered}
+use Rattle.base.proofs.Signed.{size-sum}
+use Rattle.book.specs.Numbers.{wellFormed, variablesOf, formulaOf}
 use Rattle.run.specs.Trail.{isTrue}
+use Rattle.run.specs.Run.{inConflict}
 use Rattle.layout.specs.Layout.{held}
-use Rattle.rating.specs.Pricing.{maxRunning, linesOf, applied, limited, stepped, pricedBy, openLines, premiumAnswer}
+use Rattle.validation.specs.Validation.{passes}
+use Rattle.rating.specs.Pricing.{maxAmount, maxBase, maxRunning, linesOf, areLines, changeWithin, lineWithin, listWithin, baseWithin, applied, limited, stepped, pricedBy, openLines, ratesWithin, premiumAnswer}
 use Rattle.rating.specs.Statement.{isAmount}
 use Rattle.rating.specs.declared.Change.{Change}
 use Rattle.rating.specs.declared.Change.the-variants.{Amount, Thousandths}
-use Rattle.rating.specs.declared.Priced.the-variants.{At, Beyond}
+use Rattle.rating.specs.declared.Priced.{Priced}
+use Rattle.rating.specs.declared.Priced.the-variants.{At}
 use Rattle.rating.specs.declared.RateLine.{RateLine}
-use Rattle.rating.specs.declared.Premium.the-variants.{Of}
-use Rattle.rating.proofs.PricingLaws.{open-first, priced-beyond}
-use Rattle.rating.proofs.AnswerLaws.{answered}
+use Rattle.rating.proofs.PricingLaws.{amount-small, limited-within, open-first, list-parts, line-parts}
+use Rattle.rating.proofs.Refusals.{said, state, open-count, said-is}
 
 abbrev cents : Change → ℤ
 cents (Amount amount) = amount
 cents (Thousandths part) = pos 0
 
--- a test in another order
-all-reordered : (p : RateLine → Bool) {xs ys : List RateLine} → Reordered xs ys → all p xs ≡ all p ys
-unfolding all
-all-reordered p unmoved = refl
-all-reordered p (swapped {x = x} {y = y} {xs = xs}) = go (p x) (p y) (all p xs)
-  where
-    go : (a b c : Bool) → (a && (b && c)) ≡ (b && (a && c))
-    go true true c = refl
-    go true false c = refl
-    go false true c = refl
-    go false false c = refl
-all-reordered p (behind {x = x} r) = ap (λ (b : Bool). p x && b) (all-reordered p r)
-all-reordered p (further r s) = all-reordered p r ∙ all-reordered p s
+abbrev amounts : List RateLine → Bool
+amounts lines = all (λ (line : RateLine). isAmount (line .change)) lines
 
 module _ (holds : ℕ → Bool) where
   -- what a line adds where it applies, and what all add
@@ -47,29 +41,6 @@ module _ (holds : ℕ → Bool) where
   unfoldable added : List RateLine → ℤ
   added [] = pos 0
   added (line ∷ lines) = adds line +ℤ added lines
-
-  -- a line with an amount: the state after it, where that is an amount
-  amount-step : (line : RateLine) (lines : List RateLine) (x y : ℤ) → isAmount (line .change) ≡ true → pricedBy holds (At x) (line ∷ lines) ≡ At y
-      → pricedBy holds (At (x +ℤ adds line)) lines ≡ At y
-  unfolding pricedBy stepped limited applied
-  amount-step line lines x y amount e = go (holds (line .literal)) (line .change) amount e
-    where
-      within : (w : Bool) (next : ℤ) → pricedBy holds (cond w (At next) Beyond) lines ≡ At y → pricedBy holds (At next) lines ≡ At y
-      within true next e = e
-      within false next e = let w = sym (priced-beyond holds lines) ∙ e in let z : _≡_ {A = ℕ} 0 1 = cc in absurd (omega arith)
-
-      go : (t : Bool) (change : Change) → isAmount change ≡ true → pricedBy holds (cond t (limited (applied x change)) (At x)) lines ≡ At y
-          → pricedBy holds (At (x +ℤ cond t (cents change) (pos 0))) lines ≡ At y
-      go false change amount e = rw (+ℤ-idr x) e
-      go true (Amount c) amount e = within (leb (natAbs (x +ℤ c)) maxRunning) (x +ℤ c) e
-      go true (Thousandths part) amount e = absurd (never amount refl)
-
-  amounts-add : (lines : List RateLine) (x y : ℤ) → all (λ (line : RateLine). isAmount (line .change)) lines ≡ true → pricedBy holds (At x) lines ≡ At y → y ≡ x +ℤ added lines
-  unfolding pricedBy all added
-  amounts-add [] x y amounts e = let same : y ≡ x = cc in same ∙ sym (+ℤ-idr x)
-  amounts-add (line ∷ lines) x y amounts e =
-      let parts = and-parts (isAmount (line .change)) (all (λ (l : RateLine). isAmount (l .change)) lines) amounts in
-      amounts-add lines (x +ℤ adds line) y (parts .1) (amount-step line lines x y (parts .0) e) ∙ +ℤ-assoc x (adds line) (added lines)
 
   added-reordered : {xs ys : List RateLine} → Reordered xs ys → added xs ≡ added ys
   unfolding added
@@ -86,15 +57,78 @@ module _ (holds : ℕ → Bool) where
   open-reordered (behind {x = a} {xs = xs} {ys = ys} r) = omega (arith, open-first holds a xs, open-first holds a ys, open-reordered r)
   open-reordered (further r s) = open-reordered r ∙ open-reordered s
 
--- In two lists of the same lines in different orders, all with amounts, the premium is the same wherever both are answered.
-pub amounts-commute : (book session : List ℕ) (base : ℤ) (numbers others : List ℤ) → Reordered (linesOf numbers) (linesOf others)
-    → all (λ (line : RateLine). isAmount (line .change)) (linesOf numbers) ≡ true
-    → (a b : ℤ) (m n : ℕ) → premiumAnswer book session base numbers ≡ Of a m → premiumAnswer book session base others ≡ Of b n → (a ≡ b) × (m ≡ n)
-amounts-commute book session base numbers others r amounts a b m n e f =
-    let holds = isTrue (held (formulaOf book) session .trail) in
-    let one = answered book session base numbers a m e in
-    let two = answered book session base others b n f in
-    let there : a ≡ base +ℤ added holds (linesOf numbers) = amounts-add holds (linesOf numbers) base a amounts (one .1) in
-    let here : b ≡ base +ℤ added holds (linesOf others)
-    = amounts-add holds (linesOf others) base b (sym (all-reordered (λ (line : RateLine). isAmount (line .change)) r) ∙ amounts) (two .1) in
-    (there ∙ ap (λ (s : ℤ). base +ℤ s) (added-reordered holds r) ∙ sym here, sym (one .2) ∙ open-reordered holds r ∙ two .2)
+  -- a line with an amount adds little, and where the sum is within the limit it is reached
+  adds-small : (line : RateLine) → isAmount (line .change) ≡ true → changeWithin (line .change) ≡ true → natAbs (adds line) ≤ maxAmount
+  adds-small line amount within = go (holds (line .literal)) (line .change) amount within
+    where
+      go : (t : Bool) (change : Change) → isAmount change ≡ true → changeWithin change ≡ true → natAbs (cond t (cents change) (pos 0)) ≤ maxAmount
+      go false change a w = omega arith
+      go true (Amount c) a w = amount-small c w
+      go true (Thousandths part) a w = absurd (never a refl)
+
+  reached : (line : RateLine) (x : ℤ) → isAmount (line .change) ≡ true → natAbs (x +ℤ adds line) ≤ maxRunning → stepped holds (At x) line ≡ At (x +ℤ adds line)
+  unfolding stepped applied
+  reached line x amount h = go (holds (line .literal)) (line .change) amount h
+    where
+      go : (t : Bool) (change : Change) → isAmount change ≡ true → natAbs (x +ℤ cond t (cents change) (pos 0)) ≤ maxRunning
+          → cond t (limited (applied x change)) (At x) ≡ At (x +ℤ cond t (cents change) (pos 0))
+      go false change a h = ap At (sym (+ℤ-idr x))
+      go true (Amount c) a h = sym (limited-within (x +ℤ c) h)
+      go true (Thousandths part) a h = absurd (never a refl)
+
+  -- so few lines stay within the limit
+  all-reached : (v : ℕ) (lines : List RateLine) (x : ℤ) → amounts lines ≡ true → all (lineWithin v) lines ≡ true
+      → natAbs x + maxAmount * length lines ≤ maxRunning → pricedBy holds (At x) lines ≡ At (x +ℤ added lines)
+  unfolding pricedBy all added
+  all-reached v [] x a w h = ap At (sym (+ℤ-idr x))
+  all-reached v (line ∷ lines) x a w h =
+      let amount = and-parts (isAmount (line .change)) (amounts lines) a in
+      let within = and-parts (lineWithin v line) (all (lineWithin v) lines) w in
+      let small = adds-small line (amount .0) (line-parts v line (within .0) .1) in
+      let size = size-sum x (adds line) in
+      ap (λ (s : Priced). pricedBy holds s lines) (reached line x (amount .0) (omega (arith, size, small, h)))
+      ∙ all-reached v lines (x +ℤ adds line) (amount .1) (within .1) (omega (arith, size, small, h))
+      ∙ ap At (+ℤ-assoc x (adds line) (added lines))
+
+base-most : (x : ℤ) → baseWithin x ≡ true → natAbs x ≤ maxBase
+unfolding baseWithin
+base-most (pos n) e = leb-true n maxBase e
+base-most (negsuc n) e = absurd (never e refl)
+
+-- Two lists of whole lines, the same ones in any order, all with amounts, are answered alike, refused or not; 20 never comes.
+module _ (book session : List ℕ) (base : ℤ) (numbers others : List ℤ) (whole : areLines numbers ≡ true) (whole-too : areLines others ≡ true)
+    (r : Reordered (linesOf numbers) (linesOf others)) (all-amounts : amounts (linesOf numbers) ≡ true) where
+  abbrev holds : ℕ → Bool
+  holds = isTrue (held (formulaOf book) session .trail)
+
+  same-list : listWithin (variablesOf book) numbers ≡ listWithin (variablesOf book) others
+  unfolding listWithin
+  same-list = rw (whole, whole-too, length-reordered r, all-reordered (lineWithin (variablesOf book)) r)
+
+  same-range : ratesWithin book base numbers ≡ ratesWithin book base others
+  same-range = ap (λ (b : Bool). baseWithin base && b) same-list
+
+  same-state : ratesWithin book base numbers ≡ true → state book session base numbers ≡ state book session base others
+  same-state e =
+      let both = and-parts (baseWithin base) (listWithin (variablesOf book) numbers) e in
+      let here = list-parts (variablesOf book) numbers (both .1) in
+      let there = list-parts (variablesOf book) others (sym same-list ∙ both .1) in
+      let small = base-most base (both .0) in
+      all-reached holds (variablesOf book) (linesOf numbers) base all-amounts (here .2) (omega (arith, small, here .1))
+      ∙ ap (λ (s : ℤ). At (base +ℤ s)) (added-reordered holds r)
+      ∙ sym (all-reached holds (variablesOf book) (linesOf others) base (sym (all-reordered (λ (line : RateLine). isAmount (line .change)) r) ∙ all-amounts) (there .2) (omega (arith, small, there .1)))
+
+  pub amounts-commute : premiumAnswer book session base numbers ≡ premiumAnswer book session base others
+  amounts-commute =
+      said-is book session base numbers
+      ∙ go (wellFormed book) (passes (formulaOf book) session) (inConflict (held (formulaOf book) session)) (ratesWithin book base numbers) refl
+      ∙ sym (said-is book session base others)
+    where
+      go : (w p c i : Bool) → ratesWithin book base numbers ≡ i
+          → said w p c (ratesWithin book base numbers) (state book session base numbers) (open-count book session numbers)
+          ≡ said w p c (ratesWithin book base others) (state book session base others) (open-count book session others)
+      go false p c i e = refl
+      go true false c i e = refl
+      go true true true i e = refl
+      go true true false false e = rw (← same-range, e)
+      go true true false true e = rw (← same-range, e, same-state e, open-reordered holds r)

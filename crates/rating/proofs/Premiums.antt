@@ -9,9 +9,8 @@ use lib.IntN.{ℤ, natAbs}
 use lib.ListN.{length, take, drop, take-append-drop}
 use lib.Seq.{take-all}
 use Rattle.base.specs.Lists.{all, member, keep}
-use Rattle.base.proofs.Bools.{and-parts, same-test}
-use Rattle.base.proofs.ForAll.{left-or, right-or}
-use Rattle.book.specs.Formula.{variableOf, positive, literalWithin, sound}
+use Rattle.base.proofs.Bools.{never, and-parts, same-test}
+use Rattle.book.specs.Formula.{variableOf, positive, negative, literalWithin, sound}
 use Rattle.book.specs.Numbers.{variablesOf, formulaOf}
 use Rattle.book.proofs.SoundLaws.{literal-parts}
 use Rattle.book.proofs.WellFormedLaws.{well-formed-sound}
@@ -20,47 +19,66 @@ use Rattle.run.specs.Run.{Run, inConflict}
 use Rattle.run.specs.Closure.{Closure}
 use Rattle.run.specs.Valid.{Valid}
 use Rattle.run.proofs.Conflicts.{out-quiet}
-use Rattle.run.proofs.Opposites.{same-variable, opposite-opposite}
+use Rattle.run.proofs.Opposites.{same-variable, opposite-opposite, opposite-positive}
 use Rattle.run.proofs.Theorems.{same-decisions-agree, conflicting-decisions}
 use Rattle.layout.specs.Layout.{held}
 use Rattle.validation.specs.Validation.{readRefusal}
 use Rattle.session.specs.Outcomes.{outcome, lookupAnswer}
 use Rattle.session.specs.declared.Assigned.the-variants as assigned
 use Rattle.session.proofs.PassedLaws.{well, facts, own-refusal}
-use Rattle.session.proofs.LookupLaws.{shown-assigned}
+use Rattle.session.proofs.LookupLaws.{shows-open}
 use Rattle.session.proofs.Statements.{statement-2}
-use Rattle.rating.specs.Pricing.{maxRunning, linesOf, lineWithin, listWithin, baseWithin, pricedBy, openLines, offered, premiumOf, priceRefusal, premiumAnswer}
-use Rattle.rating.specs.Statement.{after, Bounded}
+use Rattle.rating.specs.Pricing.{maxRunning, linesOf, lineWithin, pricedBy, openLines, offered, premiumOf, ratesWithin, runRefusal, priceRefusal, premiumAnswer}
+use Rattle.rating.specs.Statement.{oneIfOpen, after, Bounded}
 use Rattle.rating.specs.declared.Priced.{Priced}
 use Rattle.rating.specs.declared.Priced.the-variants.{At, Beyond}
 use Rattle.rating.specs.declared.RateLine.{RateLine}
 use Rattle.rating.specs.declared.Premium.the-variants.{Of}
-use Rattle.rating.proofs.PricingLaws.{Small, at-small, priced-small, priced-append, priced-beyond, openLine, open-first, open-few, priced-alike, open-alike, list-parts, line-parts}
+use Rattle.rating.proofs.PricingLaws.{Small, at-small, priced-small, priced-append, priced-beyond, open-one, open-first, open-few, priced-alike, open-alike, list-parts, line-parts}
 use Rattle.rating.proofs.AnswerLaws.{base-small, accepted-price, answered}
 
--- a literal's variable is assigned where the other sign of it says so
-either-sign : (trail : List Entry) (l : ℕ) → isAssigned trail (positive (variableOf l)) ≡ true → isAssigned trail l ≡ true
-either-sign trail l e = go (same-variable (positive (variableOf l)) l (omega arith))
+neither : (a b : Bool) → (_≡_ {A = ℕ} (cond (a || b) 0 1) 1) ↔ ((a ≡ false) × (b ≡ false))
+neither true b = (λ e. absurd (omega (arith, e)), λ k. absurd (never refl (k .0)))
+neither false true = (λ e. absurd (omega (arith, e)), λ k. absurd (never refl (k .1)))
+neither false false = (λ e. (refl, refl), λ k. refl)
+
+-- A line is open exactly where lookup tells that its variable is.
+pub open-by-lookup : (book session : List ℕ) → readRefusal book session ≡ 0 → (l : ℕ) → literalWithin (variablesOf book) l ≡ true
+    → (oneIfOpen (isTrue (held (formulaOf book) session .trail)) l ≡ 1) ↔ (lookupAnswer book session (variableOf l) ≡ assigned.Open)
+open-by-lookup book session e l within = go (same-variable (positive (variableOf l)) l (omega arith))
   where
-    turned : (a b : Bool) → (a || b) ≡ true → (b || a) ≡ true
-    turned true b e = right-or b refl
-    turned false b e = left-or false e
+    holds : ℕ → Bool
+    holds = isTrue (held (formulaOf book) session .trail)
 
-    go : (positive (variableOf l) ≡ l) ⊎ (positive (variableOf l) ≡ opposite l) → isAssigned trail l ≡ true
-    go (inl is) = rw is at e
+    shows : (lookupAnswer book session (variableOf l) ≡ assigned.Open) ↔ ((holds (positive (variableOf l)) ≡ false) × (holds (negative (variableOf l)) ≡ false))
+    shows =
+        let parts = literal-parts (variablesOf book) l within in
+        shows-open book session (sym e) (variableOf l) (omega (arith, parts .0)) (omega (arith, parts .1))
+
+    is-open : (oneIfOpen holds l ≡ 1) ↔ ((holds l ≡ false) × (holds (opposite l) ≡ false))
+    is-open = neither (holds l) (holds (opposite l))
+
+    go : (positive (variableOf l) ≡ l) ⊎ (positive (variableOf l) ≡ opposite l) → (oneIfOpen holds l ≡ 1) ↔ (lookupAnswer book session (variableOf l) ≡ assigned.Open)
+    go (inl is) =
+        let other : negative (variableOf l) ≡ opposite l = sym (opposite-positive (variableOf l)) ∙ ap opposite is in (
+          λ o. let k = is-open .0 o in shows .1 (ap holds is ∙ k .0, ap holds other ∙ k .1),
+          λ a. let k = shows .0 a in is-open .1 (sym (ap holds is) ∙ k .0, sym (ap holds other) ∙ k .1),
+        )
     go (inr is) =
-        let other : opposite (positive (variableOf l)) ≡ l = ap opposite is ∙ opposite-opposite l in
-        turned (isTrue trail (opposite l)) (isTrue trail l) (ap₂ (λ (a b : ℕ). isTrue trail a || isTrue trail b) (sym is) (sym other) ∙ e)
+        let other : negative (variableOf l) ≡ l = sym (opposite-positive (variableOf l)) ∙ ap opposite is ∙ opposite-opposite l in (
+          λ o. let k = is-open .0 o in shows .1 (ap holds is ∙ k .1, ap holds other ∙ k .0),
+          λ a. let k = shows .0 a in is-open .1 (sym (ap holds other) ∙ k .1, sym (ap holds is) ∙ k .0),
+        )
 
--- lines whose variables are all assigned
-none-unassigned : (holds : ℕ → Bool) (v : ℕ) → ((l : ℕ) → literalWithin v l ≡ true → (holds l || holds (opposite l)) ≡ true)
+-- lines none of whose variables is open
+none-open-lines : (holds : ℕ → Bool) (v : ℕ) → ((l : ℕ) → literalWithin v l ≡ true → oneIfOpen holds l ≡ 1 → ⊥)
     → (lines : List RateLine) → all (lineWithin v) lines ≡ true → openLines holds lines ≡ 0
 unfolding all openLines keep
-none-unassigned holds v closed [] e = refl
-none-unassigned holds v closed (line ∷ lines) e =
+none-open-lines holds v shut [] e = refl
+none-open-lines holds v shut (line ∷ lines) e =
     let parts = and-parts (lineWithin v line) (all (lineWithin v) lines) e in
-    let shut : openLine holds line ≡ 0 = rw (closed (line .literal) (line-parts v line (parts .0) .0)) in
-    omega (arith, open-first holds line lines, shut, none-unassigned holds v closed lines (parts .1))
+    let not-one = shut (line .literal) (line-parts v line (parts .0) .0) in
+    omega (arith, open-first holds line lines, open-one holds (line .literal), not-one, none-open-lines holds v shut lines (parts .1))
 
 module _ (book session : List ℕ) (base : ℤ) (numbers : List ℤ) where
   abbrev run : Run
@@ -114,30 +132,29 @@ module _ (book session : List ℕ) (base : ℤ) (numbers : List ℤ) where
   all-assigned amount n e none-open =
       let told = answered book session base numbers amount n e in
       let known = accepted-price book session base numbers (told .0) in
-      let closed : (l : ℕ) → literalWithin (variablesOf book) l ≡ true → isAssigned (run .trail) l ≡ true
-      = λ l within.
+      sym (told .2)
+      ∙ none-open-lines (isTrue (run .trail)) (variablesOf book)
+      (λ l within is-open.
       let parts = literal-parts (variablesOf book) l within in
-      let low : 1 ≤ variableOf l = omega (arith, parts .0) in
-      let high : variableOf l ≤ variablesOf book = omega (arith, parts .1) in
-      either-sign (run .trail) l (shown-assigned book session (sym (known .passed)) (variableOf l) low high (none-open (variableOf l) low high)) in
-      sym (told .2) ∙ none-unassigned (isTrue (run .trail)) (variablesOf book) closed lines (list-parts (variablesOf book) numbers (known .list-right) .2)
+      none-open (variableOf l) (omega (arith, parts .0)) (omega (arith, parts .1)) (open-by-lookup book session (known .passed) l within .0 is-open))
+      lines (list-parts (variablesOf book) numbers (known .list-right) .2)
 
 -- what a session that passes is answered
 own-answer : (book session : List ℕ) (base : ℤ) (numbers : List ℤ) → 0 ≡ readRefusal book session
     → let run = held (formulaOf book) session in
     premiumAnswer book session base numbers
-    ≡ premiumOf base (linesOf numbers) (outcome (cond (inConflict run) 14 (cond (baseWithin base && listWithin (variablesOf book) numbers) 0 19)) run)
+    ≡ premiumOf base (linesOf numbers) (outcome (runRefusal (ratesWithin book base numbers) run) run)
 unfolding premiumAnswer priceRefusal
 own-answer book session base numbers none =
     ap (λ (n : ℕ). premiumOf base (linesOf numbers) (outcome n (held (formulaOf book) session)))
-    (own-refusal book session none (λ (r : Run). cond (inConflict r) 14 (cond (baseWithin base && listWithin (variablesOf book) numbers) 0 19)))
+    (own-refusal book session none (runRefusal (ratesWithin book base numbers)))
 
 -- Two sessions on one book that pass and hold the same decisions, in whatever order, are priced alike, refused or not.
 pub same-decisions-same-price : (book a b : List ℕ) → readRefusal book a ≡ 0 → readRefusal book b ≡ 0
     → ((l : ℕ) → member l (decisions (held (formulaOf book) a .trail)) ≡ member l (decisions (held (formulaOf book) b .trail)))
     → (base : ℤ) (numbers : List ℤ) → premiumAnswer book a base numbers ≡ premiumAnswer book b base numbers
 same-decisions-same-price book a b e f same base numbers =
-    rw (own-answer book a base numbers (sym e), own-answer book b base numbers (sym f), alike) (go (inConflict runB) (baseWithin base && listWithin (variablesOf book) numbers) refl)
+    rw (own-answer book a base numbers (sym e), own-answer book b base numbers (sym f), alike) (go (inConflict runB) (ratesWithin book base numbers) refl)
   where
     runA : Run
     runA = held (formulaOf book) a

@@ -14,6 +14,7 @@ use Rattle.base.proofs.Signed.{size-negated, product-within}
 use Rattle.book.specs.Formula.{literalWithin}
 use Rattle.run.specs.Trail.{opposite}
 use Rattle.rating.specs.Pricing.{maxLines, maxAmount, maxThousandths, maxRunning, linesOf, areLines, changeWithin, lineWithin, listWithin, rounded, applied, limited, stepped, pricedBy, openLines}
+use Rattle.rating.specs.Statement.{oneIfOpen}
 use Rattle.rating.specs.declared.Change.the-variants.{Amount, Thousandths}
 use Rattle.rating.specs.declared.Priced.{Priced}
 use Rattle.rating.specs.declared.Priced.the-variants.{At, Beyond}
@@ -96,11 +97,14 @@ module _ (holds : ℕ → Bool) where
   unmet (At x) line e = rw e
   unmet Beyond line e = refl
 
-  -- whether a line is open, as a number
-  abbrev pub openLine : RateLine → ℕ
-  openLine line = cond (holds (line .literal) || holds (opposite (line .literal))) 0 1
+  pub open-one : (l : ℕ) → oneIfOpen holds l ≤ 1
+  open-one l = go (holds l || holds (opposite l))
+    where
+      go : (t : Bool) → cond t 0 1 ≤ 1
+      go true = omega arith
+      go false = omega arith
 
-  pub open-first : (line : RateLine) (lines : List RateLine) → openLines holds (line ∷ lines) ≡ openLine line + openLines holds lines
+  pub open-first : (line : RateLine) (lines : List RateLine) → openLines holds (line ∷ lines) ≡ oneIfOpen holds (line .literal) + openLines holds lines
   unfolding openLines keep
   open-first line lines = go (holds (line .literal) || holds (opposite (line .literal)))
     where
@@ -119,11 +123,7 @@ module _ (holds : ℕ → Bool) where
   pub open-few : (lines : List RateLine) → openLines holds lines ≤ length lines
   unfolding openLines keep
   open-few [] = omega arith
-  open-few (line ∷ lines) = omega (arith, open-first line lines, open-few lines, one (holds (line .literal) || holds (opposite (line .literal))))
-    where
-      one : (t : Bool) → cond t 0 1 ≤ 1
-      one true = omega arith
-      one false = omega arith
+  open-few (line ∷ lines) = omega (arith, open-first line lines, open-few lines, open-one (line .literal))
 
 -- tests that agree come to the same
 module _ (f g : ℕ → Bool) (agree : (l : ℕ) → f l ≡ g l) where
@@ -141,7 +141,7 @@ module _ (f g : ℕ → Bool) (agree : (l : ℕ) → f l ≡ g l) where
   unfolding openLines keep
   open-alike [] = refl
   open-alike (line ∷ lines) =
-      let here : openLine f line ≡ openLine g line = rw (agree (line .literal), agree (opposite (line .literal))) in
+      let here : oneIfOpen f (line .literal) ≡ oneIfOpen g (line .literal) = rw (agree (line .literal), agree (opposite (line .literal))) in
       omega (arith, open-first f line lines, open-first g line lines, here, open-alike lines)
 
 -- the parts of a list within its ranges, and of a line

@@ -8,13 +8,13 @@ use native.Mathlib.Omega.{arith}
 use borrow.Author.Tests.{leb-false}
 use lib.Dec.{leb}
 use lib.IntN.{ℤ, natAbs}
-use Rattle.book.specs.Numbers.{wellFormed, variablesOf, formulaOf}
+use Rattle.book.specs.Numbers.{wellFormed, formulaOf}
 use Rattle.run.specs.Trail.{isTrue}
 use Rattle.run.specs.Run.{Run, inConflict}
 use Rattle.layout.specs.Layout.{held}
 use Rattle.validation.specs.Validation.{passes, callRefusal}
 use Rattle.session.specs.Outcomes.{outcome}
-use Rattle.rating.specs.Pricing.{maxRunning, linesOf, baseWithin, listWithin, applied, limited, stepped, pricedBy, openLines, offered, premiumOf, priceRefusal, premiumAnswer}
+use Rattle.rating.specs.Pricing.{maxRunning, linesOf, ratesWithin, applied, limited, stepped, pricedBy, openLines, offered, premiumOf, priceRefusal, premiumAnswer}
 use Rattle.rating.specs.Statement.{GoesBeyond, RefusedWhere}
 use Rattle.rating.specs.declared.Priced.{Priced}
 use Rattle.rating.specs.declared.Priced.the-variants.{At, Beyond}
@@ -130,32 +130,32 @@ tells true true false false state n m e = inr (inr (inr (inl (cc, (refl, refl), 
 tells true true false true (At x) n m e = let z : _≡_ {A = ℕ} 0 1 = cc in absurd (omega arith)
 tells true true false true Beyond n m e = inr (inr (inr (inr (cc, (refl, refl), refl, refl, refl))))
 
+-- the number of open lines
+abbrev pub open-count : List ℕ → List ℕ → List ℤ → ℕ
+open-count book session numbers = openLines (isTrue (held (formulaOf book) session .trail)) (linesOf numbers)
+
 module _ (book session : List ℕ) (base : ℤ) (numbers : List ℤ) where
   abbrev run : Run
   run = held (formulaOf book) session
 
-  abbrev pub right : Bool
-  right = baseWithin base && listWithin (variablesOf book) numbers
-
+  -- what the lines come to
   abbrev pub state : Priced
   state = pricedBy (isTrue (run .trail)) (At base) (linesOf numbers)
 
-  abbrev pub open-count : ℕ
-  open-count = openLines (isTrue (run .trail)) (linesOf numbers)
-
-  pub said-is : premiumAnswer book session base numbers ≡ said (wellFormed book) (passes (formulaOf book) session) (inConflict run) right state open-count
+  pub said-is : premiumAnswer book session base numbers
+      ≡ said (wellFormed book) (passes (formulaOf book) session) (inConflict run) (ratesWithin book base numbers) state (open-count book session numbers)
   unfolding premiumAnswer priceRefusal callRefusal
-  said-is = go (wellFormed book) (passes (formulaOf book) session) (inConflict run) right
+  said-is = go (wellFormed book) (passes (formulaOf book) session) (inConflict run) (ratesWithin book base numbers)
     where
-      go : (w p c r : Bool) → premiumOf base (linesOf numbers) (outcome (cond w (cond p (cond c 14 (cond r 0 19)) 12) 11) run) ≡ said w p c r state open-count
+      go : (w p c r : Bool) → premiumOf base (linesOf numbers) (outcome (cond w (cond p (cond c 14 (cond r 0 19)) 12) 11) run) ≡ said w p c r state (open-count book session numbers)
       go false p c r = refl
       go true false c r = refl
       go true true true r = refl
       go true true false false = refl
       go true true false true = refl
 
-  refusal-tells : (m : ℕ) → premiumAnswer book session base numbers ≡ Refused m → Told (wellFormed book) (passes (formulaOf book) session) (inConflict run) right state m
-  refusal-tells m e = tells (wellFormed book) (passes (formulaOf book) session) (inConflict run) right state open-count m (sym said-is ∙ e)
+  refusal-tells : (m : ℕ) → premiumAnswer book session base numbers ≡ Refused m → Told (wellFormed book) (passes (formulaOf book) session) (inConflict run) (ratesWithin book base numbers) state m
+  refusal-tells m e = tells (wellFormed book) (passes (formulaOf book) session) (inConflict run) (ratesWithin book base numbers) state (open-count book session numbers) m (sym said-is ∙ e)
 
   -- Each refusal exactly where the text says.
   pub price-numbers : RefusedWhere book session base numbers

@@ -4,7 +4,8 @@ use mathlib.Core.Path.{_≡_, refl, sym, ap, _∙_}
 use native.Mathlib.Omega.{arith}
 use lib.IntN.{ℤ, pos, negsuc, negℤ, natAbs, _+ℤ_, _-ℤ_, _*ℤ_, negℤ-negℤ, negℤ-+ℤ}
 use Rattle.base.proofs.Signed.{size-negated, size-difference}
-use Rattle.rating.specs.Pricing.{distance, Nearest, rounded}
+use Rattle.rating.specs.Pricing.{rounded}
+use Rattle.rating.specs.Statement.{distance, Nearest}
 
 -- distances from a number that is not negative
 from-same : (n q : ℕ) → distance (pos n) (pos q) ≡ (n - 1000 * q) + (1000 * q - n)

@@ -15,13 +15,13 @@ use Rattle.run.specs.Trail.{Entry, isTrue}
 use Rattle.run.specs.Run.{inConflict}
 use Rattle.layout.specs.Layout.{held}
 use Rattle.validation.specs.Validation.{passes}
-use Rattle.rating.specs.Pricing.{maxLines, literalOf, changeOf, linesOf, isKind, areLines, lineWithin, listWithin, pricedBy, openLines, premiumAnswer}
-use Rattle.rating.specs.Statement.{withOpen}
+use Rattle.rating.specs.Pricing.{maxLines, literalOf, changeOf, linesOf, isKind, areLines, lineWithin, listWithin, pricedBy, openLines, ratesWithin, premiumAnswer}
+use Rattle.rating.specs.Statement.{oneIfOpen, withOpen}
 use Rattle.rating.specs.declared.Priced.{Priced}
 use Rattle.rating.specs.declared.Priced.the-variants.{At, Beyond}
 use Rattle.rating.specs.declared.RateLine.{RateLine}
-use Rattle.rating.proofs.PricingLaws.{priced-append, unmet, openLine, open-first, open-append}
-use Rattle.rating.proofs.Refusals.{said, right, state, open-count, said-is}
+use Rattle.rating.proofs.PricingLaws.{priced-append, unmet, open-first, open-append}
+use Rattle.rating.proofs.Refusals.{said, state, open-count, said-is}
 
 -- whole lines, and what follows them
 lines-join : (front rest : List ℤ) → areLines front ≡ true → linesOf (front ++ rest) ≡ linesOf front ++ linesOf rest
@@ -69,7 +69,7 @@ module _ (book session : List ℕ) (base : ℤ) (front back : List ℤ) (literal
 
     -- Where its literal is not true, it changes nothing but the number of open lines, and that by one exactly if its variable is open.
     pub unmet-line : isTrue trail (literalOf literal) ≡ false
-        → premiumAnswer book session base whole ≡ withOpen (openLine (isTrue trail) line) (premiumAnswer book session base (front ++ back))
+        → premiumAnswer book session base whole ≡ withOpen (oneIfOpen (isTrue trail) (literalOf literal)) (premiumAnswer book session base (front ++ back))
     unfolding pricedBy
     unmet-line unmet-literal =
         let same-state : state book session base whole ≡ state book session base (front ++ back)
@@ -78,16 +78,16 @@ module _ (book session : List ℕ) (base : ℤ) (front back : List ℤ) (literal
         ∙ passed-by (pricedBy (isTrue trail) (At base) (linesOf front))
         ∙ sym (priced-append (isTrue trail) (linesOf front) (linesOf back) (At base))
         ∙ ap (pricedBy (isTrue trail) (At base)) (sym without) in
-        let more : open-count book session base whole ≡ openLine (isTrue trail) line + open-count book session base (front ++ back)
+        let more : open-count book session whole ≡ oneIfOpen (isTrue trail) (literalOf literal) + open-count book session (front ++ back)
         = omega (arith, ap (openLines (isTrue trail)) joined, ap (openLines (isTrue trail)) without, open-append (isTrue trail) (linesOf front) (line ∷ linesOf back), open-append (isTrue trail) (linesOf front) (linesOf back), open-first (isTrue trail) line (linesOf back)) in
         said-is book session base whole
-        ∙ rw (same-range, same-state, more, said-is book session base (front ++ back)) (go (wellFormed book) (passes (formulaOf book) session) (inConflict (held (formulaOf book) session)) (right book session base (front ++ back)) (state book session base (front ++ back)))
+        ∙ rw (same-range, same-state, more, said-is book session base (front ++ back)) (go (wellFormed book) (passes (formulaOf book) session) (inConflict (held (formulaOf book) session)) (ratesWithin book base (front ++ back)) (state book session base (front ++ back)))
       where
         passed-by : (s : Priced) → pricedBy (isTrue trail) s (line ∷ linesOf back) ≡ pricedBy (isTrue trail) s (linesOf back)
         passed-by s = ap (λ (now : Priced). pricedBy (isTrue trail) now (linesOf back)) (unmet (isTrue trail) s line unmet-literal)
 
         go : (w p c r : Bool) (s : Priced)
-            → said w p c r s (openLine (isTrue trail) line + open-count book session base (front ++ back)) ≡ withOpen (openLine (isTrue trail) line) (said w p c r s (open-count book session base (front ++ back)))
+            → said w p c r s (oneIfOpen (isTrue trail) (literalOf literal) + open-count book session (front ++ back)) ≡ withOpen (oneIfOpen (isTrue trail) (literalOf literal)) (said w p c r s (open-count book session (front ++ back)))
         go false p c r s = refl
         go true false c r s = refl
         go true true true r s = refl

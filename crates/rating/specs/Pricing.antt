@@ -1,11 +1,10 @@
 -- Request K1, premium in cents from a settled session: the rate list, how its lines change the running amount, and what a call that prices answers.
-use Prim.Native.Nat.{ℕ, zero, suc, _+_, _/_, _≤_}
+use Prim.Native.Nat.{ℕ, zero, suc, _+_, _/_}
 use mathlib.Core.Bool.{Bool, true, false, cond, not, _&&_, _||_}
 use mathlib.Core.List.{List, [], _∷_}
-use mathlib.Core.Path.{_≡_}
 use lib.Dec.{leb}
 use lib.ListN.{length}
-use lib.IntN.{ℤ, pos, negsuc, negℤ, natAbs, _+ℤ_, _-ℤ_, _*ℤ_}
+use lib.IntN.{ℤ, pos, negsuc, negℤ, natAbs, _+ℤ_, _*ℤ_}
 use Rattle.base.specs.Lists.{all, keep}
 use Rattle.book.specs.Formula.{literalWithin}
 use Rattle.book.specs.Numbers.{variablesOf, formulaOf}
@@ -39,7 +38,7 @@ abbrev pub maxRunning : ℕ
 maxRunning = 1000000000000
 
 -- The rate list as numbers, three for each line: its literal; 0 for an amount in cents or 1 for a change in thousandths; the amount or the change.
--- A negative number is no literal; 0, which is none either, stands for it.
+-- A negative number is no literal; 0, which is none either, stands for it. Of another kind than 0 and 1 a line is refused (`areLines`), whatever it is read as.
 unfoldable pub literalOf : ℤ → ℕ
 literalOf (pos n) = n
 literalOf (negsuc n) = 0
@@ -81,20 +80,10 @@ unfoldable pub baseWithin : ℤ → Bool
 baseWithin (pos cents) = leb cents maxBase
 baseWithin (negsuc n) = false
 
--- Thousandths of a cent as whole cents.
+-- Thousandths of a cent as whole cents: the nearest, halves away from zero; `Nearest` says it in these words, and `rounded-nearest` and `rounded-only` that they are one.
 unfoldable pub rounded : ℤ → ℤ
 rounded (pos n) = pos ((n + 500) / 1000)
 rounded (negsuc n) = negℤ (pos ((suc n + 500) / 1000))
-
--- How far so many cents are from so many thousandths of a cent, in thousandths.
-abbrev pub distance : ℤ → ℤ → ℕ
-distance x cents = natAbs (x -ℤ pos 1000 *ℤ cents)
-
--- What `rounded` gives and nothing else is (`rounded-nearest`, `rounded-only`): the nearest cents, halves away from zero. None are nearer, and none that are as
--- near are farther from zero.
-pub record Nearest (x cents : ℤ) : Type 0 where
-  pub none-nearer : (other : ℤ) → distance x cents ≤ distance x other
-  pub halves : (other : ℤ) → distance x other ≡ distance x cents → natAbs other ≤ natAbs cents
 
 -- the running amount after a line that applies
 unfoldable pub applied : ℤ → Change → ℤ
@@ -120,19 +109,25 @@ openLines holds lines = length (keep (λ (line : RateLine). not (holds (line .li
 
 -- The answer: the refusal number; 20 where the running amount went beyond its limit; else the final amount and the number of open lines.
 abbrev pub offered : ℕ → Priced → Premium
-offered unassigned (At amount) = Of amount unassigned
-offered unassigned Beyond = Refused 20
+offered count (At amount) = Of amount count
+offered count Beyond = Refused 20
 
 abbrev pub premiumOf : ℤ → List RateLine → Outcome Run → Premium
 premiumOf start lines (refused number) = Refused number
 premiumOf start lines (accepted run) = offered (openLines (isTrue (run .trail)) lines) (pricedBy (isTrue (run .trail)) (At start) lines)
 
--- On a book, of a session, of a base and of a rate list, all as lent numbers: 11, 12, then 14 in conflict, then 19 for the base and the whole list.
+-- The base and the whole list are within their ranges, on a book.
+abbrev pub ratesWithin : List ℕ → ℤ → List ℤ → Bool
+ratesWithin book base numbers = baseWithin base && listWithin (variablesOf book) numbers
+
+-- What is refused in the run that a session holds: 14 in conflict, then 19 where base or list are not within their ranges.
+abbrev pub runRefusal : Bool → Run → ℕ
+runRefusal within run = cond (inConflict run) 14 (cond within 0 19)
+
+-- On a book, of a session, of a base and of a rate list, all as lent numbers: 11, 12, then these.
 module _ (book session : List ℕ) (base : ℤ) (numbers : List ℤ) where
   unfoldable pub priceRefusal : ℕ
-  priceRefusal =
-      callRefusal book session
-      (λ (run : Run). cond (inConflict run) 14 (cond (baseWithin base && listWithin (variablesOf book) numbers) 0 19))
+  priceRefusal = callRefusal book session (runRefusal (ratesWithin book base numbers))
 
   unfoldable pub premiumAnswer : Premium
   premiumAnswer = premiumOf base (linesOf numbers) (outcome priceRefusal (held (formulaOf book) session))

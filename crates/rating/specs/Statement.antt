@@ -1,17 +1,17 @@
--- What the theorems of `rating` say of an answer: how its amount is bounded, where 20 arises, and which refusal comes when.
+-- What the theorems of `rating` say: what the nearest cents are, how an amount is bounded, where 20 arises, and which refusal comes when.
 use Prim.Native.Nat.{ℕ, _+_, _≤_, _<_}
-use mathlib.Core.Bool.{Bool, true, false, _&&_}
+use mathlib.Core.Bool.{Bool, true, false, cond, _||_}
 use mathlib.Core.List.{List, _∷_, _++_}
 use mathlib.Core.Logic.{_↔_, _⊎_}
 use mathlib.Core.Path.{_≡_}
-use lib.IntN.{ℤ, natAbs}
+use lib.IntN.{ℤ, pos, natAbs, _-ℤ_, _*ℤ_}
 use lib.ListN.{length, take}
-use Rattle.book.specs.Numbers.{wellFormed, variablesOf, formulaOf}
-use Rattle.run.specs.Trail.{isTrue}
+use Rattle.book.specs.Numbers.{wellFormed, formulaOf}
+use Rattle.run.specs.Trail.{opposite, isTrue}
 use Rattle.run.specs.Run.{Run, inConflict}
 use Rattle.layout.specs.Layout.{held}
 use Rattle.validation.specs.Validation.{passes}
-use Rattle.rating.specs.Pricing.{maxLines, maxRunning, linesOf, baseWithin, listWithin, applied, pricedBy, premiumAnswer}
+use Rattle.rating.specs.Pricing.{maxLines, maxRunning, linesOf, ratesWithin, applied, pricedBy, premiumAnswer}
 use Rattle.rating.specs.declared.Change.{Change}
 use Rattle.rating.specs.declared.Change.the-variants.{Amount, Thousandths}
 use Rattle.rating.specs.declared.Priced.{Priced}
@@ -19,6 +19,15 @@ use Rattle.rating.specs.declared.Priced.the-variants.{At}
 use Rattle.rating.specs.declared.RateLine.{RateLine}
 use Rattle.rating.specs.declared.Premium.{Premium}
 use Rattle.rating.specs.declared.Premium.the-variants.{Of, Refused}
+
+-- How far so many cents are from so many thousandths of a cent, in thousandths.
+abbrev pub distance : ℤ → ℤ → ℕ
+distance x cents = natAbs (x -ℤ pos 1000 *ℤ cents)
+
+-- The nearest cents, halves away from zero: none are nearer, and none that are as near are farther from zero.
+pub record Nearest (x cents : ℤ) : Type 0 where
+  pub none-nearer : (other : ℤ) → distance x cents ≤ distance x other
+  pub halves : (other : ℤ) → distance x other ≡ distance x cents → natAbs other ≤ natAbs cents
 
 -- Among the lines there is one that applies and after which the running amount is beyond its limit; before it there was an amount.
 pub record GoesBeyond (holds : ℕ → Bool) (start : ℤ) (lines : List RateLine) : Type 0 where
@@ -31,9 +40,13 @@ pub record GoesBeyond (holds : ℕ → Bool) (start : ℤ) (lines : List RateLin
   pub applies : holds (line .literal) ≡ true
   pub beyond : maxRunning < natAbs (applied running (line .change))
 
+-- 1 where the variable of a literal is open, else 0
+abbrev pub oneIfOpen : (ℕ → Bool) → ℕ → ℕ
+oneIfOpen holds l = cond (holds l || holds (opposite l)) 0 1
+
 -- so many open lines more
 abbrev pub withOpen : ℕ → Premium → Premium
-withOpen n (Of amount unassigned) = Of amount (n + unassigned)
+withOpen n (Of amount count) = Of amount (n + count)
 withOpen n (Refused number) = Refused number
 
 abbrev pub isAmount : Change → Bool
@@ -62,18 +75,15 @@ module _ (book session : List ℕ) (base : ℤ) (numbers : List ℤ) where
   abbrev answer : Premium
   answer = premiumAnswer book session base numbers
 
-  -- the book is of the right form and the session passes; base and list are within their ranges
+  -- the book is of the right form and the session passes
   abbrev Passes : Type 0
   Passes = (wellFormed book ≡ true) × (passes (formulaOf book) session ≡ true)
-
-  abbrev within : Bool
-  within = baseWithin base && listWithin (variablesOf book) numbers
 
   -- Each refusal number exactly where it is due.
   pub record RefusedWhere : Type 0 where
     pub book-fault : (answer ≡ Refused 11) ↔ (wellFormed book ≡ false)
     pub session-fault : (answer ≡ Refused 12) ↔ ((wellFormed book ≡ true) × (passes (formulaOf book) session ≡ false))
     pub conflict : (answer ≡ Refused 14) ↔ (Passes × (inConflict run ≡ true))
-    pub range : (answer ≡ Refused 19) ↔ (Passes × (inConflict run ≡ false) × (within ≡ false))
-    pub limit : (answer ≡ Refused 20) ↔ (Passes × (inConflict run ≡ false) × (within ≡ true) × GoesBeyond (isTrue (run .trail)) base lines)
+    pub range : (answer ≡ Refused 19) ↔ (Passes × (inConflict run ≡ false) × (ratesWithin book base numbers ≡ false))
+    pub limit : (answer ≡ Refused 20) ↔ (Passes × (inConflict run ≡ false) × (ratesWithin book base numbers ≡ true) × GoesBeyond (isTrue (run .trail)) base lines)
     pub no-other : (n : ℕ) → answer ≡ Refused n → (n ≡ 11) ⊎ (n ≡ 12) ⊎ (n ≡ 14) ⊎ (n ≡ 19) ⊎ (n ≡ 20)

@@ -4,15 +4,14 @@ mod running;
 mod signed;
 
 ghost use mathlib.Core.Path.{_≡_};
-ghost use mathlib.Core.Bool.{true, cond};
+ghost use mathlib.Core.Bool.{true};
 ghost use Prim.Native.Nat.{_≤_};
 ghost use lib.IntN.{natAbs};
 ghost use Rattle.book.specs.Numbers.{variablesOf, formulaOf};
-ghost use Rattle.run.specs.Run.{Run, inConflict};
 ghost use Rattle.layout.specs.Layout.{held};
 ghost use Rattle.validation.specs.Validation.{callRefusal, readRefusal};
 ghost use Rattle.session.specs.Outcomes.{accepted};
-ghost use Rattle.rating.specs.Pricing.{maxRunning, baseWithin, listWithin, linesOf, priceRefusal, premiumOf, premiumAnswer};
+ghost use Rattle.rating.specs.Pricing.{maxRunning, baseWithin, listWithin, linesOf, runRefusal, priceRefusal, premiumOf, premiumAnswer};
 use lines::list_within;
 use running::apply_all;
 use running::open_lines;
@@ -41,13 +40,13 @@ enum Priced {
 
 // What a call that prices answers: the final amount in cents and the number of lines whose variable is open, or the refusal number.
 pub enum Premium {
-    Of { amount: i64, unassigned: u32 },
+    Of { amount: i64, open_lines: u32 },
     Refused(u32),
 }
 
 // The refusals that come before the base and the lines: 11, 12, and 14 in conflict; 0 where none of them applies.
 fn session_refusal(book: &[u32], session: &[u32]) -> u32
-    ensures { λ r. ⌜ r ≡ callRefusal (now (book .entry)) (now (session .entry)) (λ (run : Run). cond (inConflict run) 14 0) ⌝ }
+    ensures { λ r. ⌜ r ≡ callRefusal (now (book .entry)) (now (session .entry)) (runRefusal true) ⌝ }
 {
     match session::figures(book, session) {
         session::Shown::Refused(number) => number,
@@ -100,7 +99,7 @@ fn premium_of(book: &[u32], session: &[u32], start: i64, lines: &[i32]) -> Premi
     match apply_all(book, session, start, lines) {
         Priced::At(amount) => Premium::Of {
             amount,
-            unassigned: open_lines(book, session, lines),
+            open_lines: open_lines(book, session, lines),
         },
         Priced::Beyond => Premium::Refused(20),
     }

@@ -1,16 +1,17 @@
 // The running amount: what a line does to it, and all lines in list order.
 ghost use mathlib.Core.Path.{_≡_};
-ghost use mathlib.Core.Bool.{true, not};
+ghost use mathlib.Core.Bool.{true};
 ghost use Prim.Native.Nat.{ℕ, _≤_};
 ghost use lib.IntN.{ℤ, natAbs};
 ghost use Rattle.book.specs.Formula.{literalWithin};
 ghost use Rattle.book.specs.Numbers.{formulaOf, variablesOf};
-ghost use Rattle.run.specs.Trail.{isTrue, isAssigned};
+ghost use Rattle.run.specs.Trail.{isTrue};
 ghost use Rattle.layout.specs.Layout.{held};
 ghost use Rattle.layout.specs.Values.{valueIn};
 ghost use Rattle.validation.specs.Validation.{readRefusal};
 ghost use Rattle.rating.specs.Pricing as pricing;
 ghost use Rattle.rating.specs.Pricing.{maxRunning, changeWithin, listWithin, linesOf, stepped, pricedBy, openLines};
+ghost use Rattle.rating.specs.Statement.{oneIfOpen};
 ghost use Rattle.rating.specs.declared.Priced.the-variants as priced;
 use crate::Change;
 use crate::Priced;
@@ -82,15 +83,15 @@ fn is_true(book: &[u32], session: &[u32], literal: u32) -> bool
     }
 }
 
-// A literal's variable is open.
-fn is_open(book: &[u32], session: &[u32], literal: u32) -> bool
+// 1 where a literal's variable is open, else 0.
+fn one_if_open(book: &[u32], session: &[u32], literal: u32) -> u32
     requires { ⌜ (readRefusal (now book) (now session) ≡ 0) × (literalWithin (variablesOf (now book)) literal ≡ true) ⌝ }
-    ensures { λ r. ⌜ r ≡ not (isAssigned (held (formulaOf (now (book .entry))) (now (session .entry)) .trail) literal) ⌝ }
+    ensures { λ r. ⌜ r ≡ oneIfOpen (isTrue (held (formulaOf (now (book .entry))) (now (session .entry)) .trail)) literal ⌝ }
 {
     match value(book, session, literal) {
-        Value::Open => true,
-        Value::True => false,
-        Value::False => false,
+        Value::Open => 1,
+        Value::True => 0,
+        Value::False => 0,
     }
 }
 
@@ -120,9 +121,7 @@ pub(crate) fn open_lines(book: &[u32], session: &[u32], numbers: &[i32]) -> u32
     let mut at = 0;
     while at + 2 < numbers.len() {
         let line = line_at(numbers, at);
-        if is_open(book, session, line.literal) {
-            count += 1;
-        }
+        count += one_if_open(book, session, line.literal);
         at += 3;
     }
     count

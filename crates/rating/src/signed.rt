@@ -1,6 +1,6 @@
 // Signed numbers: their size, sums, products, and thousandths rounded to whole ones.
 ghost use mathlib.Core.Path.{_≡_};
-ghost use Prim.Native.Nat.{_≤_};
+ghost use Prim.Native.Nat.{_+_, _<_};
 ghost use lib.IntN.{natAbs, _+ℤ_, _*ℤ_};
 ghost use mir.Syntax.{w64};
 ghost use mir.Val.{SFits};
@@ -38,9 +38,9 @@ pub(crate) fn sum(a: i64, b: i64) -> i64
     a + b
 }
 
-// To the nearest, halves away from zero: a signed quotient is cut towards zero.
+// To the nearest, halves away from zero: a signed quotient is cut towards zero. With 500 added or taken off the number still fits.
 pub(crate) fn to_cents(p: i64) -> i64
-    requires { ⌜ natAbs p ≤ 9000000000000000000 ⌝ }
+    requires { ⌜ natAbs p + 500 < 9223372036854775808 ⌝ }
     ensures { λ r. ⌜ r ≡ rounded p ⌝ }
 {
     if p < 0 {

@@ -164,7 +164,7 @@ module _ (v : ℕ) (numbers : List ℤ) where
     other-kind d h e = rw (← w .kinds, kinds-from numbers d at h, e)
 
     -- a line that is read, and is within its ranges or is not
-    module _ (d : ℤ) (h : at + 2 < length numbers) (line : RateLine) (is : linesOf (drop at numbers) ≡ line ∷ linesOf (drop (at + 3) numbers)) where
+    module _ (line : RateLine) (is : linesOf (drop at numbers) ≡ line ∷ linesOf (drop (at + 3) numbers)) where
       rest : all (lineWithin v) (linesOf numbers) ≡ (lineWithin v line && all (lineWithin v) (linesOf (drop (at + 3) numbers)))
       unfolding all
       rest = sym (w .lines) ∙ ap (all (lineWithin v)) is
@@ -173,8 +173,8 @@ module _ (v : ℕ) (numbers : List ℤ) where
       unfolding listWithin
       line-outside e = rw (rest, ← e) (sym (and-false (areLines numbers && leb (length (linesOf numbers)) maxLines)))
 
-      pub within-more : isKind (getD numbers (at + 1) d) ≡ true → true ≡ lineWithin v line → WithinBefore (at + 3)
-      within-more kind e =
+      pub within-more : (d : ℤ) → at + 2 < length numbers → isKind (getD numbers (at + 1) d) ≡ true → true ≡ lineWithin v line → WithinBefore (at + 3)
+      within-more d h kind e =
           record {
             inside = omega arith;
             kinds = sym (rw kind at (kinds-from numbers d at h)) ∙ w .kinds;

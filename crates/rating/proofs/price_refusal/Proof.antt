@@ -1,6 +1,6 @@
 -- `price_refusal` meets its contract. Assumes nothing.
 use Prim.Native.Nat.{ℕ}
-use mathlib.Core.Bool.{cond}
+use mathlib.Core.Bool.{true}
 use mathlib.Core.Path.{_≡_, sym, ap, _∙_}
 use native.Mathlib.Omega.{arith}
 use borrow.Author.Needs.{needs}
@@ -8,10 +8,9 @@ use borrow.Author.Tests.{not-true, not-false}
 use mir.Syntax.{w64}
 use mir.ValLaws.{toZ-ofZ}
 use Rattle.book.specs.Numbers.{variablesOf}
-use Rattle.run.specs.Run.{Run, inConflict}
 use Rattle.validation.specs.Validation.{callRefusal}
 use Rattle.session.proofs.PassedLaws.{none-first, few-variables}
-use Rattle.rating.specs.Pricing.{baseWithin, listWithin}
+use Rattle.rating.specs.Pricing.{baseWithin, listWithin, runRefusal}
 use Rattle.rating.proofs.AnswerLaws.{refused-before, base-outside, list-outside, none-outside}
 use Rattle.rating.proofs.price_refusal.Statement.{statement}
 use Rattle.rating.proofs.price_refusal.Tie as tie
@@ -26,7 +25,7 @@ base-within-requires : tie.Need-base-within-requires
 base-within-requires c κs = search needs
 
 -- the session passes and is out of conflict
-quiet : (c : tie.Else1) → 0 ≡ callRefusal (c .before .before .before .before .args .book .now) (c .before .before .before .before .args .session .now) (λ (run : Run). cond (inConflict run) 14 0)
+quiet : (c : tie.Else1) → 0 ≡ callRefusal (c .before .before .before .before .args .book .now) (c .before .before .before .before .args .session .now) (runRefusal true)
 quiet c = sym (c .if1 .left) ∙ c .before .session-refusal .ensures
 
 -- the base as it is handed on
@@ -44,7 +43,7 @@ variables-requires c κs = search needs
 list-within-requires : tie.Need-list-within-requires
 list-within-requires c κs =
     let passed = c .before .before .before in
-    omega (arith, c .variables .ensures, few-variables _ _ (none-first _ _ (λ (run : Run). cond (inConflict run) 14 0) (quiet passed)))
+    omega (arith, c .variables .ensures, few-variables _ _ (none-first _ _ (runRefusal true) (quiet passed)))
 
 -- the list
 list-told : (c : tie.After-list-within) →

@@ -15,10 +15,11 @@ use Rattle.layout.specs.Values.{valueIn}
 use Rattle.layout.specs.declared.values.Value.the-variants.{Open, True, False}
 use Rattle.layout.proofs.ValueLaws.{value-open, value-true, value-false}
 use Rattle.rating.specs.Pricing.{maxLines, linesOf, changeWithin, lineWithin, listWithin, applied, limited, stepped, pricedBy, openLines}
+use Rattle.rating.specs.Statement.{oneIfOpen}
 use Rattle.rating.specs.declared.Priced.{Priced}
 use Rattle.rating.specs.declared.Priced.the-variants.{At, Beyond}
 use Rattle.rating.specs.declared.RateLine.{RateLine}
-use Rattle.rating.proofs.PricingLaws.{Small, stepped-small, openLine, open-first, list-parts, line-parts}
+use Rattle.rating.proofs.PricingLaws.{Small, stepped-small, open-one, open-first, list-parts, line-parts}
 use Rattle.rating.proofs.lines.Laws.{lines-none, list-short}
 
 -- a line that is told to apply, or not
@@ -45,13 +46,13 @@ module _ (applies : Bool) where
 
 -- a variable is open where the value of its literal is
 module _ (trail : List Entry) (l : ℕ) where
-  pub told-open : valueIn trail l ≡ Open → true ≡ not (isAssigned trail l)
+  pub told-open : valueIn trail l ≡ Open → 1 ≡ oneIfOpen (isTrue trail) l
   told-open e = let signs = value-open trail l e in rw (signs .0, signs .1)
 
-  pub told-true : valueIn trail l ≡ True → false ≡ not (isAssigned trail l)
+  pub told-true : valueIn trail l ≡ True → 0 ≡ oneIfOpen (isTrue trail) l
   told-true e = rw (value-true trail l e)
 
-  pub told-false : valueIn trail l ≡ False → false ≡ not (isAssigned trail l)
+  pub told-false : valueIn trail l ≡ False → 0 ≡ oneIfOpen (isTrue trail) l
   told-false e = let signs = value-false trail l e in rw (signs .0, signs .1)
 
 -- Loops over the lines of a list that is within its ranges, on a book of v variables:
@@ -113,19 +114,17 @@ module _ (v : ℕ) (numbers : List ℤ) where
     open-none e = record { inside = omega arith; short = list-short v numbers e; ranged = list-parts v numbers e .2; few = omega arith; rest = omega arith }
 
     module _ (count at : ℕ) (o : OpenBefore count at) where
-      module _ (h : at + 2 < length numbers) (line : RateLine) (is : linesOf (drop at numbers) ≡ line ∷ linesOf (drop (at + 3) numbers)) where
-        counts : openLines (isTrue trail) (linesOf (drop at numbers)) ≡ openLine (isTrue trail) line + openLines (isTrue trail) (linesOf (drop (at + 3) numbers))
-        counts = ap (openLines (isTrue trail)) is ∙ open-first (isTrue trail) line (linesOf (drop (at + 3) numbers))
-
-        pub open-counted : true ≡ not (isAssigned trail (line .literal)) → OpenBefore (count + 1) (at + 3)
-        open-counted e =
-            let one = rw (not-true (isAssigned trail (line .literal)) (sym e)) at counts in
-            record { inside = omega arith; short = o .short; ranged = ranged-parts at (o .ranged) line is .1; few = omega (arith, o .few); rest = omega (arith, one, o .rest) }
-
-        pub open-passed : false ≡ not (isAssigned trail (line .literal)) → OpenBefore count (at + 3)
-        open-passed e =
-            let none = rw (not-false (isAssigned trail (line .literal)) (sym e)) at counts in
-            record { inside = omega arith; short = o .short; ranged = ranged-parts at (o .ranged) line is .1; few = omega (arith, o .few); rest = omega (arith, none, o .rest) }
+      pub open-more : at + 2 < length numbers → (line : RateLine) → linesOf (drop at numbers) ≡ line ∷ linesOf (drop (at + 3) numbers)
+          → (n : ℕ) → n ≡ oneIfOpen (isTrue trail) (line .literal) → OpenBefore (count + n) (at + 3)
+      open-more h line is n told =
+          let counts = ap (openLines (isTrue trail)) is ∙ open-first (isTrue trail) line (linesOf (drop (at + 3) numbers)) in
+          record {
+            inside = omega arith;
+            short = o .short;
+            ranged = ranged-parts at (o .ranged) line is .1;
+            few = omega (arith, o .few, told, open-one (isTrue trail) (line .literal));
+            rest = omega (arith, told, counts, o .rest);
+          }
 
       pub open-all : length numbers ≤ at + 2 → count ≡ openLines (isTrue trail) (linesOf numbers)
       unfolding openLines keep

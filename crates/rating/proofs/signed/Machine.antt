@@ -40,7 +40,7 @@ size-quotient (pos n) = omega arith
 size-quotient (negsuc n) = omega (arith, size-negated (pos (suc n / 1000)))
 
 -- p with 500 added or taken off, and its quotient by 1000, where p is small
-module _ (p q : ℤ) (h : natAbs p ≤ 9000000000000000000) (k : natAbs q ≤ 500) where
+module _ (p q : ℤ) (h : natAbs p + 500 < 9223372036854775808) (k : natAbs q ≤ 500) where
   p-fits : SFits w64 p
   p-fits = small-fits p (omega arith)
 

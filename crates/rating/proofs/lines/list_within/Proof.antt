@@ -66,7 +66,7 @@ returns-3 : tie.Need-returns-3 Inv-loop μ-loop
 returns-3 c =
     let read = c .before .before in
     let at-loop = read .before .before .before .before .before in
-    line-outside _ _ (at-loop .loop .at) (at-loop .loop .inv) (pos 0) (search needs) (read .line-at .result) (read .line-at .ensures) (sym (not-true _ (c .if3 .taken)) ∙ c .before .line-within .ensures)
+    line-outside _ _ (at-loop .loop .at) (at-loop .loop .inv) (read .line-at .result) (read .line-at .ensures) (sym (not-true _ (c .if3 .taken)) ∙ c .before .line-within .ensures)
 
 add-at : tie.Need-add-at Inv-loop μ-loop
 add-at c = search needs
@@ -78,7 +78,7 @@ loop-again : tie.Need-loop-again Inv-loop μ-loop
 loop-again c =
     let read = c .before .before in
     let at-loop = read .before .before .before .before .before in
-    within-more _ _ (at-loop .loop .at) (at-loop .loop .inv) (pos 0) (search needs) (read .line-at .result) (read .line-at .ensures)
+    within-more _ _ (at-loop .loop .at) (at-loop .loop .inv) (read .line-at .result) (read .line-at .ensures) (pos 0) (search needs)
     (sym (kind-told (read .before .before)) ∙ not-false _ (read .before .if2 .left)) (sym (not-false _ (c .if3 .left)) ∙ c .before .line-within .ensures)
 
 returns-4 : tie.Need-returns-4 Inv-loop μ-loop

@@ -1,13 +1,13 @@
 -- `running::open_lines` meets its contract. Assumes nothing.
 use Prim.Native.Nat.{_-_}
-use mathlib.Core.Logic.{⊎-elim}
-use mathlib.Core.Path.{sym, _∙_}
 use native.Mathlib.Omega.{arith}
 use borrow.Author.Needs.{needs}
 use lib.ListN.{length}
 use Rattle.book.specs.Numbers.{variablesOf, formulaOf}
+use Rattle.run.specs.Trail.{isTrue}
 use Rattle.layout.specs.Layout.{held}
-use Rattle.rating.proofs.running.Laws.{OpenBefore, open-none, read-parts, open-counted, open-passed, open-all}
+use Rattle.rating.proofs.PricingLaws.{open-one}
+use Rattle.rating.proofs.running.Laws.{OpenBefore, open-none, read-parts, open-more, open-all}
 use Rattle.rating.proofs.running.open_lines.Statement.{statement}
 use Rattle.rating.proofs.running.open_lines.Tie as tie
 
@@ -30,16 +30,19 @@ add-loop c =
 line-at-requires : tie.Need-line-at-requires Inv-loop μ-loop
 line-at-requires c κs = search needs
 
-is-open-requires : tie.Need-is-open-requires Inv-loop μ-loop
-is-open-requires c κs =
+one-if-open-requires : tie.Need-one-if-open-requires Inv-loop μ-loop
+one-if-open-requires c κs =
     let at-loop = c .before .before in
     let entry = at-loop .before .before .before in
     (entry .pre .0, read-parts (variablesOf (entry .args .book .now)) (entry .args .numbers .now) (at-loop .loop .at) (at-loop .loop .inv .ranged) (c .line-at .result) (c .line-at .ensures) .0)
 
 add-count : tie.Need-add-count Inv-loop μ-loop
 add-count c =
-    let inv = c .before .before .before .before .loop .inv in
-    omega (arith, inv .few, inv .inside, inv .short)
+    let at-loop = c .before .before .before in
+    let entry = at-loop .before .before .before in
+    let inv = at-loop .loop .inv in
+    let one = open-one (isTrue (held (formulaOf (entry .args .book .now)) (entry .args .session .now) .trail)) (c .before .line-at .result .literal) in
+    omega (arith, inv .few, inv .inside, inv .short, c .one-if-open .ensures, one)
 
 add-at : tie.Need-add-at Inv-loop μ-loop
 add-at c = search needs
@@ -49,15 +52,11 @@ loop-less c = search needs
 
 loop-again : tie.Need-loop-again Inv-loop μ-loop
 loop-again c =
-    let here = c .before .before in
+    let here = c .before in
     let at-loop = here .before .before in
     let entry = at-loop .before .before .before in
-    let trail = held (formulaOf (entry .args .book .now)) (entry .args .session .now) .trail in
-    let inv = at-loop .loop .inv in
-    ⊎-elim
-    (λ w. rw (w .1) (open-counted (variablesOf (entry .args .book .now)) (entry .args .numbers .now) trail _ (at-loop .loop .at) inv (search needs) (here .line-at .result) (here .line-at .ensures) (sym (w .0 .taken) ∙ c .before .is-open .ensures)))
-    (λ w. rw (w .1) (open-passed (variablesOf (entry .args .book .now)) (entry .args .numbers .now) trail _ (at-loop .loop .at) inv (search needs) (here .line-at .result) (here .line-at .ensures) (sym (w .0 .left) ∙ c .before .is-open .ensures)))
-    (c .if1 .came)
+    open-more (variablesOf (entry .args .book .now)) (entry .args .numbers .now) (held (formulaOf (entry .args .book .now)) (entry .args .session .now) .trail) (at-loop .loop .count) (at-loop .loop .at) (at-loop .loop .inv)
+    (search needs) (here .line-at .result) (here .line-at .ensures) _ (c .one-if-open .ensures)
 
 returns : tie.Need-returns Inv-loop μ-loop
 returns c =
@@ -74,7 +73,7 @@ open-lines-spec =
     loop-holds
     add-loop
     line-at-requires
-    is-open-requires
+    one-if-open-requires
     add-count
     add-at
     loop-less

@@ -1,4 +1,4 @@
--- `running::is_open` meets its contract. Assumes nothing.
+-- `running::one_if_open` meets its contract. Assumes nothing.
 use mathlib.Core.Path.{_≡_, sym, _∙_}
 use borrow.Author.Needs.{needs}
 use Rattle.book.specs.Numbers.{formulaOf}
@@ -7,8 +7,8 @@ use Rattle.layout.specs.Values.{valueIn}
 use Rattle.layout.specs.declared.values.Value.{Value}
 use Rattle.layout.specs.declared.values.Value.the-variants.{Open, True, False}
 use Rattle.rating.proofs.running.Laws.{told-open, told-true, told-false}
-use Rattle.rating.proofs.running.is_open.Statement.{statement}
-use Rattle.rating.proofs.running.is_open.Tie as tie
+use Rattle.rating.proofs.running.one_if_open.Statement.{statement}
+use Rattle.rating.proofs.running.one_if_open.Tie as tie
 
 value-requires : tie.Need-value-requires
 value-requires c κs = search needs
@@ -36,7 +36,7 @@ returns-2 c = told-true _ _ (told (c .before .before) True (c .enum-told2 .given
 returns-3 : tie.Need-returns-3
 returns-3 c = told-false _ _ (told (c .before .before) False (c .enum-told3 .given .1))
 
-pub is-open-spec : {M : Type 1} → statement M
-is-open-spec =
+pub one-if-open-spec : {M : Type 1} → statement M
+one-if-open-spec =
     tie.close
     (tie.spec value-requires enum-told enum-told-2 enum-told-3 returns returns-2 returns-3)
