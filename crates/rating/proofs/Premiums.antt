@@ -1,6 +1,6 @@
 -- What holds of every premium: its amount is bounded at every line, and it follows from the book, the decisions, the base and the list.
 use Prim.Native.Nat.{ℕ, _≤_}
-use mathlib.Core.Bool.{Bool, true, false, cond, _&&_, _||_}
+use mathlib.Core.Bool.{Bool, true, false, cond, _||_}
 use mathlib.Core.List.{List, [], _∷_}
 use mathlib.Core.Logic.{_↔_, _⊎_, inl, inr}
 use mathlib.Core.Path.{_≡_, refl, sym, ap, ap₂, _∙_}
@@ -14,7 +14,7 @@ use Rattle.book.specs.Formula.{variableOf, positive, negative, literalWithin, s
 use Rattle.book.specs.Numbers.{variablesOf, formulaOf}
 use Rattle.book.proofs.SoundLaws.{literal-parts}
 use Rattle.book.proofs.WellFormedLaws.{well-formed-sound}
-use Rattle.run.specs.Trail.{Entry, opposite, isTrue, isAssigned, decisions}
+use Rattle.run.specs.Trail.{opposite, isTrue, decisions}
 use Rattle.run.specs.Run.{Run, inConflict}
 use Rattle.run.specs.Closure.{Closure}
 use Rattle.run.specs.Valid.{Valid}

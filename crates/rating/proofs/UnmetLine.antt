@@ -1,4 +1,4 @@
--- A line that does not apply changes nothing but the number of open lines.
+-- A line that is within its ranges and does not apply changes nothing but the number of open lines.
 use Prim.Native.Nat.{ℕ, _+_, _≤_}
 use mathlib.Core.Bool.{Bool, true, false}
 use mathlib.Core.List.{List, [], _∷_, _++_}

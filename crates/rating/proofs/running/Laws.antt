@@ -10,7 +10,7 @@ use lib.ListN.{length, drop, length-drop}
 use Rattle.base.specs.Lists.{all, keep}
 use Rattle.base.proofs.Bools.{and-parts}
 use Rattle.book.specs.Formula.{literalWithin}
-use Rattle.run.specs.Trail.{Entry, isTrue, isAssigned}
+use Rattle.run.specs.Trail.{Entry, isTrue}
 use Rattle.layout.specs.Values.{valueIn}
 use Rattle.layout.specs.declared.values.Value.the-variants.{Open, True, False}
 use Rattle.layout.proofs.ValueLaws.{value-open, value-true, value-false}

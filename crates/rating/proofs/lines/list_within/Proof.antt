@@ -1,6 +1,7 @@
 -- `lines::list_within` meets its contract. Assumes nothing.
 use Prim.Native.Nat.{_+_, _-_}
 use mathlib.Core.Path.{_≡_, sym, ap, _∙_}
+use native.Mathlib.Omega.{arith}
 use borrow.Author.Needs.{needs}
 use borrow.Author.Tests.{not-true, not-false}
 use lib.IntN.{pos}
@@ -22,7 +23,7 @@ mul-if1 : tie.Need-mul-if1 Inv-loop μ-loop
 mul-if1 c = search needs
 
 returns : tie.Need-returns Inv-loop μ-loop
-returns c = too-many (c .before .args .variables) (c .before .args .numbers .now) (c .if1 .taken)
+returns c = too-many (c .before .args .variables) (c .before .args .numbers .now) (omega (arith, c .if1 .taken))
 
 loop-holds : tie.Need-loop-holds Inv-loop μ-loop
 loop-holds c = within-none (c .before .args .variables) (c .before .args .numbers .now)
