@@ -60,7 +60,7 @@ static inline uint32_t tariff_filed(uint64_t answer) { return answer == 1; }
 #define TARIFF_AMOUNT 0
 #define TARIFF_THOUSANDTHS 1
 
-/* The most of a rate list: lines; cents of an amount and thousandths of a change, above zero and below; cents of the base, which is at least 0; and
+/* The limits of a premium: lines of the rate list; cents of an amount and thousandths of a change, above zero and below; cents of the base, which is at least 0; and
  * cents of the running amount, above zero and below. */
 #define TARIFF_MOST_LINES 200
 #define TARIFF_MOST_AMOUNT 10000000
@@ -159,7 +159,7 @@ uint64_t tariff_quote(const uint32_t *book, size_t book_length, const uint8_t *s
  * adds its amount, or running amount x thousandths / 1000, rounded to the nearest cent, halves away from zero.
  * Accepted: the number of lines whose feature is open. Writes the final amount to *amount.
  * Refuses: 11, 12; 14 in contradiction; then 19 where the base or a line, whether it applies or not, is outside its range above, a line is of another kind
- * than the two, or `lines` has over 200 lines or is no whole number of them; then 20 where the running amount is beyond its own after a line. */
+ * than the two, or `lines` has over 200 lines or is no whole number of them; then 20 where after a line the running amount is outside its range above. */
 uint64_t tariff_price(const uint32_t *book, size_t book_length, const uint32_t *session, size_t session_length,
                       int64_t base, const int32_t *lines, size_t lines_length, int64_t *amount);
 

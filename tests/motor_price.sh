@@ -85,8 +85,10 @@ listed "$(repeated 200)"
 as_due '200 lines'
 listed "$(doubled 10)"
 as_due 'an amount of 1,000,000,000,000'
-listed 's/$/\r/'
-prints_stored "$name.sanitized"
+for edit in 's/$/\r/' 's/^$/ \t /' 's/^$/  \r/'; do
+    listed "$edit"
+    prints_stored "$name.sanitized"
+done
 rates=$motor/rates
 cp "$tariff" "$folder"
 scripts=('s/^/-/; s/^-b/b/' '7,$d' '8,$d' '8,10d' '/^b/d' '1i b 1' '/^b/s/$/\nhello\n\n-0\n65\n b 1/' '$s/$/\n50\n-37/' '$s/$/\nb 11/')
@@ -112,7 +114,7 @@ says "$name.sanitized" 'the amount is beyond 1,000,000,000,000 cents after a lin
 listed "$(repeated 201)"
 says "$name.sanitized" 'the rate list has more than 200 lines'
 unread=(': 50 amount' ': 50 amount 6900 cents' ': 50 amount 69.00' ': 50 Amount 6900' ': 50 amount 1234567890' ': 1234567890 amount 6900'
-    ': fifty amount 6900' ' 50 amount 6900')
+    ': fifty amount 6900' ' 50 amount 6900' ': 50amount 6900' ': 50 amount6900' ': 50 thousandths690')
 for line in "${unread[@]}"; do
     listed "s/^legal.*/legal$line/"
     says "$name.sanitized" "this is no rate: legal$line"
@@ -129,7 +131,18 @@ listed '/^legal/s/^/\x00/'
 says "$name.sanitized" 'the rate list has a byte 0'
 rates=$motor
 says "$name.sanitized" 'the rate list cannot be read'
+rates=$folder/none
+says "$name.sanitized" 'no such rate list'
 rates=$motor/rates
+script=$motor
+says "$name.sanitized" 'the script cannot be read'
+script=$folder/none
+says "$name.sanitized" 'no such script'
+script=$motor/script
+(
+    run() { "$1" "$tariff" "$script" 2>&1; }
+    says "$name.sanitized" 'usage: price TARIFF RATES SCRIPT'
+)
 notices 's/(TARIFF_AMOUNT) 0/\1 1/; s/(TARIFF_THOUSANDTHS) 1/\1 0/'
 notices 's/(TARIFF_THOUSANDTHS) 1/\1 2/'
 notices 's/(TARIFF_LINE_NUMBERS) 3/\1 2/'

@@ -21,14 +21,19 @@ const REFUSALS: usize = 23;
 /// The calls of a list.
 const LIST: usize = 24;
 
-/// How many calls were compared, by what they answered, how many of them gave a price, in how many states every variable was looked up, how many
-/// steps left the numbers of the call, how many states CaDiCaL confirmed afresh, and how many it answered alike when kept, or by what it had learnt.
+/// The refusal numbers of a price.
+pub const PRICE_REFUSALS: [usize; 5] = [11, 12, 14, 19, 20];
+
+/// How many calls were compared, by what they answered, how many of them gave a price and how many refused one, by the number, in how many states every
+/// variable was looked up, how many steps left the numbers of the call, how many states CaDiCaL confirmed afresh, and how many it answered alike when
+/// kept, or by what it had learnt.
 #[derive(Default)]
 pub struct Compared {
     pub accepted: usize,
     pub conflicts: usize,
     pub refused: [usize; REFUSALS],
     pub priced: usize,
+    pub unpriced: [usize; REFUSALS],
     pub looked_up: usize,
     pub steps: usize,
     pub confirmed: usize,
@@ -147,7 +152,18 @@ impl Compared {
             halve(&[amount as u64], halves);
             answer
         });
-        self.priced += usize::from(matches!(answer, Answer::Accepted(_)));
+        match answer {
+            Answer::Refused(number) => self.unpriced[number as usize] += 1,
+            _ => self.priced += 1,
+        }
+    }
+
+    /// Prices gave an amount, and were refused by each of their numbers.
+    fn expect_prices(&self) {
+        assert!(self.priced > 0, "no price gave an amount");
+        for number in PRICE_REFUSALS {
+            assert!(self.unpriced[number] > 0, "no price was refused by {number}");
+        }
     }
 
     /// A lookup of every variable, and of the numbers before and behind them.
@@ -328,5 +344,6 @@ pub fn compare(workloads: &[Rc<Workload>], texts: &[Rc<Vec<u8>>]) -> Compared {
         compared.workload(&mut random, &workload, 2);
     }
     compared.many_lines(&workloads[0].book);
+    compared.expect_prices();
     compared
 }

@@ -46,17 +46,30 @@ fn lines(random: &mut Random, count: usize, most: [i32; 2], mut literal: impl Fn
     (0..count).flat_map(line).collect()
 }
 
-/// A base that ten lines double to 1,000,000,000,000 where their literal is true, and behind them one or two lines of a cent or none.
-fn growing(random: &mut Random, mut literal: impl FnMut(&mut Random) -> i32) -> Rates {
-    let doubled = literal(random);
-    let mut numbers = [doubled, 1, 1000].repeat(10);
-    for _ in 0..1 + random.below(2) {
-        numbers.extend([literal(random), 0, random.below(3) as i32 - 1]);
+/// A base and lines that come to 1,000,000,000,000 where their literal is true, or as far below zero.
+fn far(random: &mut Random, literal: i32) -> Rates {
+    let doubled = |times: usize| [literal, 1, 1000].repeat(times);
+    if random.once_in(2) {
+        return Rates {
+            base: 976_562_500,
+            lines: doubled(10),
+        };
     }
+    let lowered = [literal, 0, -10_000_000].repeat(24);
     Rates {
-        base: 976_562_500,
-        lines: numbers,
+        base: 0,
+        lines: [lowered, vec![literal, 0, -4_140_625], doubled(12)].concat(),
     }
+}
+
+/// Lines that come to the limit of the amount, and behind them one or two of a cent or none.
+fn growing(random: &mut Random, mut literal: impl FnMut(&mut Random) -> i32) -> Rates {
+    let grown = literal(random);
+    let mut rates = far(random, grown);
+    for _ in 0..1 + random.below(2) {
+        rates.lines.extend([literal(random), 0, random.below(3) as i32 - 1]);
+    }
+    rates
 }
 
 /// Numbers that are out of range in a line, or are its limits: as literal, as kind and as change.
@@ -116,7 +129,7 @@ pub fn any(random: &mut Random, book: &[u32], session: &[u32]) -> Rates {
 }
 
 /// The state of a workload without conflict that has the longest trail.
-fn settled(workload: &Workload) -> Vec<u32> {
+fn assigned(workload: &Workload) -> Vec<u32> {
     let mut longest = Vec::new();
     workload.run(&Plain, |call, session| {
         let length = longest.get(LENGTH).copied();
@@ -128,7 +141,7 @@ fn settled(workload: &Workload) -> Vec<u32> {
     longest
 }
 
-/// The measured price: a settled session, a rate list of 200 lines for it, and how many of them apply.
+/// The measured price: a session, a rate list of 200 lines for it, and how many of them apply.
 pub struct Measured {
     pub session: Vec<u32>,
     pub rates: Rates,
@@ -137,7 +150,7 @@ pub struct Measured {
 
 /// The measured price of a workload; its amounts go up to 10,000 and its thousandths up to 300 on either side of zero.
 pub fn measured(workload: &Workload) -> Measured {
-    let session = settled(workload);
+    let session = assigned(workload);
     let trail = &session[places(&workload.book).trail][..session[LENGTH] as usize];
     let drawn = |random: &mut Random| literal(random, workload.book[0] as usize, trail);
     let lines = lines(&mut Random::new(1), LINES, [10_000, 300], drawn);

@@ -1,6 +1,6 @@
 //! The report: every measured figure, and what follows from it, as Markdown.
 use crate::books::{Size, LIMITS, TENTH};
-use crate::differential::Compared;
+use crate::differential::{Compared, PRICE_REFUSALS};
 use crate::goals::{Goal, Goals, MARGIN};
 use crate::measure::{ROUNDS, TIME};
 use crate::plan::{Group, Plan, Series, Task, ASKED, DECISIONS, GROWTH};
@@ -303,13 +303,24 @@ fn prices(groups: &[Group]) -> String {
     )
 }
 
+/// How many prices were answered by an amount and by each refusal.
+fn equal_prices(compared: &Compared) -> String {
+    let refused = PRICE_REFUSALS.map(|number| format!("{} by {number}", grouped(compared.unpriced[number] as f64)));
+    format!(
+        "{} prices gave an amount, and others were refused: {}.",
+        grouped(compared.priced as f64),
+        refused.join(", ")
+    )
+}
+
 fn equal(compared: &Compared) -> String {
     let numbers = (1..compared.refused.len()).filter(|&number| compared.refused[number] > 0);
     let named: Vec<String> = numbers.map(|number| number.to_string()).collect();
     format!(
         "Both engines gave equal answers and left equal numbers in {} calls: {} accepted, {} in conflict, {} refused (numbers {}).\n\
-         These are all workloads and texts above, random calls between them, small books, damaged sessions, books and texts, quotes for scripts of good and of strange lines,\n\
-         and prices by rate lists in range and nearly so, of which {} gave an amount.\n\
+         These are all workloads and texts above, random calls between them, small books, damaged sessions, books and texts,\n\
+         quotes for scripts of good and of strange lines, and prices by rate lists in range and nearly so.\n\
+         {}\n\
          In {} states every feature was looked up, with its level.\n\
          The engine's steps without examination left the same numbers as the call in {} steps: all accepted decisions and backtracks of the scripts, and all accepted fixings.\n\
          In {} of the states CaDiCaL, asked afresh, propagated the same values, or a conflict where the session has one.\n\
@@ -319,7 +330,7 @@ fn equal(compared: &Compared) -> String {
         grouped(compared.conflicts as f64),
         grouped(compared.refusals() as f64),
         named.join(", "),
-        grouped(compared.priced as f64),
+        equal_prices(compared),
         grouped(compared.looked_up as f64),
         grouped(compared.steps as f64),
         grouped(compared.confirmed as f64),
@@ -364,6 +375,42 @@ fn judgement(goals: &Goals) -> String {
     )
 }
 
+/// Validation beside propagation, and what each stage of validation takes.
+fn validation(plan: &Plan) -> String {
+    let note =
+        "Each stage is the difference between calls that are refused at its end and at the end of the stage before.";
+    let each_stage = |group: &Group| {
+        format!(
+            "### Where validation goes: {}\n\n{note}\n\n{}",
+            group.name,
+            stages(group)
+        )
+    };
+    format!(
+        "A lookup on the state before each decision is the validation of that decision; propagation is the difference.\n{}\n\n{}\n{}",
+        shares_sentence(&plan.calls),
+        shares(&plan.calls),
+        plan.stages.iter().map(each_stage).collect::<Vec<_>>().join("\n"),
+    )
+}
+
+/// Decisions and texts against plain Rust: whether the goal is met, and the figures.
+fn against_plain(goal: &Goal, first: &str, groups: &[Group]) -> String {
+    format!(
+        "{}\n\n{}",
+        goal.sentence(),
+        tasks_table(first, PROVED_PLAIN, groups, [0, 1])
+    )
+}
+
+fn all_growth(series: &[Series]) -> String {
+    format!(
+        "V {}, {GROWTH} decisions.\n\n![instructions of a decision by C, L and clause length](speed.svg)\n\n{}",
+        LIMITS.variables,
+        series.iter().map(growth).collect::<Vec<_>>().join("\n")
+    )
+}
+
 /// The name of the report's file.
 pub const FILE: &str = "SPEED.md";
 
@@ -378,47 +425,15 @@ pub fn report(plan: &Plan, goals: &Goals, compared: &Compared) -> String {
     let mut section = |title: &str, body: String| text.push_str(&format!("## {title}\n\n{body}\n"));
     section(
         "a. A decision, with its validation",
-        format!(
-            "{}\n\n{}",
-            goals.decision.sentence(),
-            tasks_table("book", PROVED_PLAIN, &plan.calls, [0, 1])
-        ),
+        against_plain(&goals.decision, "book", &plan.calls),
     );
-    let note =
-        "Each stage is the difference between calls that are refused at its end and at the end of the stage before.";
-    let each_stage = |group: &Group| {
-        format!(
-            "### Where validation goes: {}\n\n{note}\n\n{}",
-            group.name,
-            stages(group)
-        )
-    };
-    section(
-        "b. Validation and propagation",
-        format!(
-            "A lookup on the state before each decision is the validation of that decision; propagation is the difference.\n{}\n\n{}\n{}",
-            shares_sentence(&plan.calls),
-            shares(&plan.calls),
-            plan.stages.iter().map(each_stage).collect::<Vec<_>>().join("\n"),
-        ),
-    );
+    section("b. Validation and propagation", validation(plan));
     section("c. CaDiCaL, asked afresh and kept", cadical(goals, &plan.cadical));
     section(
         "d. Reading the text",
-        format!(
-            "{}\n\n{}",
-            goals.reading.sentence(),
-            tasks_table("text", PROVED_PLAIN, &plan.reading, [0, 1])
-        ),
+        against_plain(&goals.reading, "text", &plan.reading),
     );
-    section(
-        "e. Growth",
-        format!(
-            "V {}, {GROWTH} decisions.\n\n![instructions of a decision by C, L and clause length](speed.svg)\n\n{}",
-            LIMITS.variables,
-            plan.growth.iter().map(growth).collect::<Vec<_>>().join("\n")
-        ),
-    );
+    section("e. Growth", all_growth(&plan.growth));
     section("f. The scan of long clauses", long_clauses(&plan.scans));
     section(
         &format!("g. A price of {LINES} lines at the limits"),

@@ -66,8 +66,9 @@ int main(int count, char **words) {
     if (count != 3) fail("usage: chapters TARIFF SCRIPT");
     read_tariff(words[1]);
     file_rules();
+    read_script(words[2]);
     open_session();
-    follow(words[2]);
+    follow_script();
     say_chapters();
     return 0;
 }

@@ -15,6 +15,8 @@ static size_t needed;
 static uint32_t choices;                     /* in force */
 static uint32_t chosen[TARIFF_FEATURES + 1]; /* the feature of each of them, from choice 1 on */
 static const char *feature_names[TARIFF_FEATURES + 1];
+static char *script;
+static size_t script_length; /* how many bytes it has */
 
 /* What the program does with the answer of the opening and of each choice and take-back that is not refused; nothing, unless main sets it. */
 static void (*after_step)(uint64_t answer);
@@ -157,14 +159,14 @@ static void follow_byte(int byte) {
     }
 }
 
+/* All of it, before the program says anything. */
+static inline void read_script(const char *path) { script = read_bytes(path, "script", &script_length); }
+
 /* The last line may lack its end; where it has it, an empty line comes behind, which is passed over. */
-static inline void follow(const char *path) {
-    FILE *file = fopen(path, "rb");
-    if (!file) fail("no such script");
-    for (int byte = fgetc(file); byte != EOF; byte = fgetc(file)) follow_byte(byte);
-    if (ferror(file)) fail("the script cannot be read");
+static inline void follow_script(void) {
+    for (size_t i = 0; i < script_length; i++) follow_byte(script[i]);
     follow_byte('\n');
-    fclose(file);
+    free(script);
 }
 
 #endif

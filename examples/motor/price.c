@@ -2,8 +2,8 @@
  * A rate list begins with its base, as `base: 30000`. Its lines are as `young driver: 28 thousandths 350` and `without a garage: -47 amount 1500`. */
 #include "follow.h"
 
-/* The columns before the amount of a step and of a line, and those of an amount. */
-enum { STEP = 42, LINE = 78, AMOUNT = 12 };
+/* The columns before the amount of a step and of a line, and those of an amount with a blank before it. */
+enum { STEP = 42, LINE = 78, AMOUNT = 19 };
 
 static int64_t base;
 static size_t count; /* how many lines there are */
@@ -27,26 +27,28 @@ static void add_line(const char *name, int feature, int32_t kind, int32_t value)
     line[2] = value;
 }
 
-/* The name ends at the first colon. */
+/* The name ends at the first colon. Of the kind a byte more is read than the longest has, so that a number must not follow at once. */
 static void read_line(char *line) {
-    char kind[12];
-    int feature, value, end = 0;
+    char kind[13] = "";
+    int feature = 0, value = 0, end = 0;
     char *colon = strchr(line, ':');
-    if (!colon || sscanf(colon + 1, "%9d %11s %9d %n", &feature, kind, &value, &end) != 3 || colon[1 + end] != '\0') fail("this is no rate: %s", line);
+    int taken = colon ? sscanf(colon + 1, "%9d%*1[ \t] %12s %9d %n", &feature, kind, &value, &end) : 0;
     int amount = strcmp(kind, "amount") == 0;
-    if (!amount && strcmp(kind, "thousandths") != 0) fail("this is no rate: %s", line);
+    if (taken != 3 || colon[1 + end] != '\0' || (!amount && strcmp(kind, "thousandths") != 0)) fail("this is no rate: %s", line);
     *colon = '\0';
     add_line(line, feature, amount ? TARIFF_AMOUNT : TARIFF_THOUSANDTHS, value);
 }
 
-/* The base comes first; empty lines, and those that begin with `#`, are passed over. */
+static int is_blank(const char *line) { return line[strspn(line, " \t")] == '\0'; }
+
+/* The base comes first; empty lines, those of blanks, and those that begin with `#`, are passed over. */
 static void read_rates(const char *path) {
     size_t length;
     int met = 0;
     char *rates = read_bytes(path, "rate list", &length);
     if (strlen(rates) != length) fail("the rate list has a byte 0");
     for (char *line = strtok(rates, "\r\n"); line; line = strtok(NULL, "\r\n")) {
-        if (line[0] == '#') continue;
+        if (line[0] == '#' || is_blank(line)) continue;
         if (met++) read_line(line);
         else read_base(line);
     }
@@ -145,8 +147,9 @@ int main(int number, char **words) {
     read_tariff(words[1]);
     read_names();
     read_rates(words[2]);
+    read_script(words[3]);
     open_session();
-    follow(words[3]);
+    follow_script();
     say_lines();
     return 0;
 }

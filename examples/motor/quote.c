@@ -1,14 +1,12 @@
 /* Says what the session of a script on a tariff needs and costs at most, before it is opened; then makes the session and says what it cost. */
 #include "follow.h"
 
-static char *script;
-static size_t length; /* how many bytes it has */
 static uint32_t quoted[TARIFF_QUOTED];
 static uint64_t ceiling;
 
 /* The tariff was accepted, so that its book is not at fault: only a script of too many lines is refused. */
 static void quote(void) {
-    uint64_t answer = tariff_quote(book, TARIFF_BOOK, (const uint8_t *)script, length, quoted, TARIFF_QUOTED, &ceiling);
+    uint64_t answer = tariff_quote(book, TARIFF_BOOK, (const uint8_t *)script, script_length, quoted, TARIFF_QUOTED, &ceiling);
     if (tariff_kind(answer) != TARIFF_ACCEPTED) fail("the script has more than 1,000,000 lines of take-backs");
 }
 
@@ -27,9 +25,7 @@ static void say_quote(void) {
 /* In as many numbers as quoted, and on the bytes that were quoted for. */
 static void make_session(void) {
     open_in(quoted[TARIFF_QUOTED_LENGTH]);
-    for (size_t i = 0; i < length; i++) follow_byte(script[i]);
-    follow_byte('\n');
-    free(script);
+    follow_script();
 }
 
 static void say_cost(void) {
@@ -48,7 +44,7 @@ int main(int count, char **words) {
     program = "quote";
     if (count != 3) fail("usage: quote TARIFF SCRIPT");
     read_tariff(words[1]);
-    script = read_bytes(words[2], "script", &length);
+    read_script(words[2]);
     quote();
     say_quote();
     make_session();

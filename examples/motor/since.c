@@ -63,8 +63,9 @@ int main(int count, char **words) {
     if (count != 3) fail("usage: since TARIFF SCRIPT");
     read_tariff(words[1]);
     read_names();
+    read_script(words[2]);
     open_session();
-    follow(words[2]);
+    follow_script();
     say_settled();
     return 0;
 }

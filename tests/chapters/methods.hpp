@@ -57,10 +57,8 @@ Method answer_as(Change change) {
 // The library's call; where it wrote totals, they are changed, by what was lent before.
 template <class Change>
 Method where_filed(Change change) {
-    return then([change](uint64_t answer, Lending& lent, const Lending& before) {
-        if (answer == FILED) change(lent.totals.memory, before);
-        return answer;
-    });
+    auto filed = [](uint64_t answer) { return answer == FILED; };
+    return call_then_where(by_library, filed, [change](Lending& lent, const Lending& before) { change(lent.totals.memory, before); });
 }
 
 // The library's call; where it wrote totals, `visit(clause, count, total of its chapter)` is called for each clause.

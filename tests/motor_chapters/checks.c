@@ -6,8 +6,9 @@ int main(int count, char **words) {
     program = "checks";
     if (count != 3) fail("usage: checks TARIFF SCRIPT");
     read_tariff(words[1]);
+    read_script(words[2]);
     open_session();
-    follow(words[2]);
+    follow_script();
     uint64_t answer = tariff_checks(book, TARIFF_BOOK, session, needed, checks, TARIFF_RULES);
     expect_accepted(answer);
     for (uint32_t rule = 1; rule <= tariff_number(answer); rule++)

@@ -44,7 +44,7 @@ function price(n,    i) {
     }
 }
 
-function premium() { return right(amount, 12) right(unsettled, 5) " line" (unsettled == 1 ? "" : "s") " open" }
+function premium() { return right(amount, 19) right(unsettled, 5) " line" (unsettled == 1 ? "" : "s") " open" }
 
 function say(made) {
     settle()
@@ -54,12 +54,12 @@ function say(made) {
 
 function say_line(i,    state) {
     state = literal[i] in holds ? "applies" : is_open(literal[i]) ? "open" : "does not apply"
-    printf "  %-30s %4d  %-11s%s   %-14s%s\n", name[i], literal[i], kind[i], right(value[i], 11), state, right(amount, 12)
+    printf "  %-30s %4d  %-11s%s   %-14s%s\n", name[i], literal[i], kind[i], right(value[i], 11), state, right(amount, 19)
 }
 
 { sub(/\r$/, "") }
 part == "tariff" && /^c [0-9]+ / { number = $2; sub(/^c [0-9]+ /, ""); feature[number] = $0 }
-part == "tariff" || /^#/ || /^$/ || $1 == "refused" || $1 == "end" { next }
+part == "tariff" || /^#/ || /^[ \t]*$/ || $1 == "refused" || $1 == "end" { next }
 part == "rates" && /^base:/ { base = $2; next }
 part == "rates" { name[++lines] = $0; sub(/:.*/, "", name[lines]); literal[lines] = $(NF - 2) + 0; kind[lines] = $(NF - 1); value[lines] = $NF + 0; next }
 { rule = $(NF - 1) == "rule" ? $NF : 0 }
@@ -73,7 +73,7 @@ $1 == "back" { choices -= $2; say($2 " choice" ($2 == 1 ? "" : "s") " taken back
 END {
     if (rule) { print "there is no premium: a contradiction stands (14)"; exit }
     print "the premium at the end, line by line, in cents"
-    print filled("  base", 78) right(base, 12)
+    print filled("  base", 78) right(base, 19)
     for (i = 1; i <= lines; i++) { price(i); say_line(i) }
     print filled("  premium", 78) premium()
 }

@@ -175,10 +175,16 @@ private:
         for (int faults = random.chance(80) ? 1 : 2; faults > 0; faults--) {
             int kind = random.below(10);
             if (kind < 2) lent.base = bad_base();
-            if (kind == 2) add_any(201 + below(3) - std::min(lines.size(), size_t{201}));
+            if (kind == 2) add_any(bad_count() - std::min(lines.size(), size_t{200}));
             if (kind > 2 && lines.empty()) add_any(1);
             if (kind > 2) spoil_line();
         }
+    }
+
+    // The first ones outside, and those whose numbers are good in 10 or 16 bits.
+    size_t bad_count() {
+        int kind = random.below(100);
+        return kind < 50 ? 201 + below(3) : kind < 88 ? 1024 + below(201) : 65536 + below(201);
     }
 
     int64_t bad_base() {
@@ -224,8 +230,8 @@ private:
         Line behind{one_of(true_ones), AMOUNT, random.chance(50) ? any_amount() : bad_value(AMOUNT)};
         lent.rates.memory.insert(lent.rates.memory.end(), {behind.literal, behind.kind, behind.value, behind.literal, behind.kind, behind.value});
         if (random.chance(6)) lent.rates.length += 1 + below(2);
-        lent.amount = static_cast<int64_t>(random.next());
-        if (random.chance(30)) lent.amount = random.pick(std::vector<int64_t>{0, lent.base, -1});
+        for (int64_t& amount : lent.amounts) amount = static_cast<int64_t>(random.next());
+        if (random.chance(30)) lent.amount() = random.pick(std::vector<int64_t>{0, lent.base, -1});
     }
 
     Random& random;

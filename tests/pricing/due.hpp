@@ -77,16 +77,16 @@ inline Due apply_lines(const Lending& lent, const Numbers& trail, const Rounding
         if (!within) break;
     }
     due.answer = within ? static_cast<uint64_t>(std::count(due.states.begin(), due.states.end(), State::OPEN)) : c_refusal(20);
-    due.amount = within ? running : lent.amount;
+    due.amount = within ? running : lent.amount();
     return due;
 }
 
 inline Due due_of(const Lending& lent, const Ways& ways = {}) {
     Numbers trail;
     uint64_t answer = ways.trail(lent, trail);
-    if (tariff_kind(answer) == TARIFF_REFUSED) return {answer, lent.amount};
-    if (in_conflict(lent)) return {c_refusal(14), lent.amount};
-    if (Faults(lent).count() > 0) return {c_refusal(19), lent.amount};
+    if (tariff_kind(answer) == TARIFF_REFUSED) return {answer, lent.amount()};
+    if (in_conflict(lent)) return {c_refusal(14), lent.amount()};
+    if (Faults(lent).count() > 0) return {c_refusal(19), lent.amount()};
     return apply_lines(lent, trail, ways.rounding);
 }
 
@@ -103,7 +103,8 @@ inline Due compare_price(Lending lent, std::optional<uint64_t> refusal, const Wa
     if (refusal) compare_number(examined_out ? tariff_number(due.answer) : 0, *refusal, "refusal of the trail", 0);
     for (int64_t product : due.products) compare_rounding(product, ways.rounding);
     compare_number(ways.price(lent), due.answer, "answer with list numbers", lent.rates.length);
-    compare_amount(lent.amount, due.amount, "amount");
+    compare_amount(lent.amount(), due.amount, "amount");
+    for (size_t i : {0, 2}) compare_number(lent.amounts[i], before.amounts[i], "number beside the amount", i);
     compare_memory(lent.book.memory, before.book.memory, "number of the book");
     compare_memory(lent.session.memory, before.session.memory, "number of the session");
     compare_memory(lent.rates.memory, before.rates.memory, "number of the list");

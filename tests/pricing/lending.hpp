@@ -1,5 +1,6 @@
 // What a call that prices is lent, the library's call, and what its other calls tell of the session.
 #pragma once
+#include <array>
 #include <cstddef>
 #include <cstdint>
 #include <tariff.h>
@@ -22,7 +23,10 @@ struct Lending {
     Loan<uint32_t> book, session;
     int64_t base = 0;
     Loan<int32_t> rates;
-    int64_t amount = 0;
+    std::array<int64_t, 3> amounts{};  // the amount stands between two numbers that no call may write
+
+    int64_t& amount() { return amounts[1]; }
+    int64_t amount() const { return amounts[1]; }
 
     // As the book says where it is not at fault.
     int32_t variables() const { return static_cast<int32_t>(book.memory[0]); }
@@ -30,6 +34,7 @@ struct Lending {
     // The whole lines that are lent.
     std::vector<Line> lines() const {
         std::vector<Line> list;
+        list.reserve(rates.length / LINE);
         for (size_t i = 0; i + LINE <= rates.length; i += LINE) list.push_back({rates.memory[i], rates.memory[i + 1], rates.memory[i + 2]});
         return list;
     }
@@ -37,7 +42,7 @@ struct Lending {
 
 inline uint64_t by_library(Lending& lent) {
     return tariff_price(pointer_to(lent.book), lent.book.length, pointer_to(lent.session), lent.session.length, lent.base, pointer_to(lent.rates),
-                        lent.rates.length, &lent.amount);
+                        lent.rates.length, &lent.amount());
 }
 
 // What `tariff_trail_from` answers, and the settled literals that it writes; none where it refuses.

@@ -27,7 +27,7 @@ constexpr int ENOUGH = 3;
 const Cases cases("pricing", 70010000);
 
 // A decision on every variable, in any order; one that comes to a conflict is taken back, or now and then all stays so.
-void settle(Random& random, Library& library) {
+void assign_all(Random& random, Library& library) {
     bool stays = random.chance(15);
     for (int variable : shapes::permutation(random, static_cast<int>(library.variables()))) {
         uint64_t answer = library.take({Call::DECIDE, literal_number(random.sign(variable))});
@@ -50,7 +50,7 @@ void run_case(uint64_t seed, const shapes::Shape& shape, const std::string& moto
     library.open();
     for (int calls = 12; calls > 0; calls--) {
         if (random.chance(40)) wander(random, library, random.between(1, random.chance(95) ? 20 : 200));
-        if (random.chance(4)) settle(random, library);
+        if (random.chance(4)) assign_all(random, library);
         if (random.chance(40) && library.conflict() != 0) library.take({Call::BACKTRACK, 1});
         Draw draw(random, library);
         tally.add(draw.lent, compare_price(draw.lent, draw.refusal, ways));
@@ -136,6 +136,9 @@ int test(const std::string& motor) {
 
 }  // namespace
 
-int main(int, char** argv) {
-    return guarded([&] { return test(read_file(argv[1])); });
+int main(int argc, char** argv) {
+    return guarded([&] {
+        if (argc != 2) throw std::runtime_error("usage: pricing TARIFF");
+        return test(read_file(argv[1]));
+    });
 }

@@ -32,27 +32,22 @@ inline Method addend(const std::function<Wide(Wide running, Wide base, int32_t p
     return with(&Recipe::change, [addend](Wide running, Wide base, int32_t part) -> Wide { return running + addend(running, base, part); });
 }
 
-// The library's call; then what it answered and left is changed, by what was lent before.
-template <class Change>
-Method then(Change change) {
-    return call_then(by_library, change);
-}
-
-// The same where it is accepted.
+// The library's call; where it is accepted, what it left is changed, by what was lent before.
 template <class Change>
 Method where_priced(Change change) {
-    return then([change](uint64_t answer, Lending& lent, const Lending& before) {
-        if (tariff_kind(answer) == TARIFF_ACCEPTED) change(lent, before);
-        return answer;
-    });
+    return call_then_where(by_library, [](uint64_t answer) { return tariff_kind(answer) == TARIFF_ACCEPTED; }, change);
 }
 
 // The library's call, and the amount is written where it refuses by this number.
 inline Method written_where(uint64_t number) {
-    return then([number](uint64_t answer, Lending& lent, const Lending&) {
-        if (answer == c_refusal(number)) lent.amount ^= 1;
-        return answer;
-    });
+    auto refused = [number](uint64_t answer) { return answer == c_refusal(number); };
+    return call_then_where(by_library, refused, [](Lending& lent, const Lending&) { lent.amount() ^= 1; });
+}
+
+// The library's call; then what it answered and left is changed, by what was lent before.
+template <class Change>
+Method then(Change change) {
+    return call_then(by_library, change);
 }
 
 // The library's call, with another number for a refusal.
@@ -65,7 +60,7 @@ template <class Condition>
 Method refused_where(uint64_t number, Condition condition) {
     return then([=](uint64_t answer, Lending& lent, const Lending& before) {
         if (tariff_kind(answer) == TARIFF_REFUSED || !condition(lent)) return answer;
-        lent.amount = before.amount;
+        lent.amount() = before.amount();
         return c_refusal(number);
     });
 }
@@ -114,7 +109,7 @@ inline List wrong_changes() {
     return list;
 }
 
-inline bool is_wanted(const Stated& one) { return one.line.literal % 2 == 0; }
+inline bool is_positive(const Stated& one) { return one.line.literal % 2 == 0; }
 
 // Each feature, or each literal, once: the lines in front of which there is none with the same number.
 template <class Number>
@@ -125,7 +120,7 @@ Lines first_ones(const Lines& lines, Number number) {
     return kept;
 }
 
-inline Lines first_of_features(const Lines& lines) {
+inline Lines first_of_variables(const Lines& lines) {
     return first_ones(lines, [](int32_t literal) { return literal / 2; });
 }
 
@@ -174,8 +169,8 @@ inline List wrong_lines() {
         {"all lines apply", with(&Recipe::applies, [](const One&) { return true; })},
         {"no line applies", with(&Recipe::applies, [](const One&) { return false; })},
         {"the opposite lines apply", with(&Recipe::applies, [](const One& one) { return one.state == State::FALSE; })},
-        {"wanted ones alone apply", with(&Recipe::applies, [](const One& one) { return one.state == State::TRUE && is_wanted(one); })},
-        {"barred ones alone apply", with(&Recipe::applies, [](const One& one) { return one.state == State::TRUE && !is_wanted(one); })},
+        {"wanted ones alone apply", with(&Recipe::applies, [](const One& one) { return one.state == State::TRUE && is_positive(one); })},
+        {"barred ones alone apply", with(&Recipe::applies, [](const One& one) { return one.state == State::TRUE && !is_positive(one); })},
         {"each feature applies once", with(&Recipe::order, apply_once)},
         {"the list reversed", with(&Recipe::order, backwards)},
         {"amounts first", with(&Recipe::order, amounts_first)},
@@ -197,13 +192,13 @@ inline List wrong_counts() {
     };
     auto open = [](const Lines& lines) { return count_states(lines, State::OPEN); };
     return noticed_by("answer", {
-        {"a feature counted once", with(&Recipe::count, [=](const Lines& lines) { return open(first_of_features(lines)); })},
+        {"a feature counted once", with(&Recipe::count, [=](const Lines& lines) { return open(first_of_variables(lines)); })},
         {"a literal counted once", with(&Recipe::count, [=](const Lines& lines) { return open(first_of_literals(lines)); })},
         {"false lines counted as open", with(&Recipe::count, [=](const Lines& lines) { return open(lines) + count_states(lines, State::FALSE); })},
         {"false lines counted for open ones", with(&Recipe::count, [](const Lines& lines) { return count_states(lines, State::FALSE); })},
         {"lines that apply counted", with(&Recipe::count, [](const Lines& lines) { return count_states(lines, State::TRUE); })},
-        {"wanted open ones counted", with(&Recipe::count, open_and(is_wanted))},
-        {"barred open ones counted", with(&Recipe::count, open_and([](const Stated& one) { return !is_wanted(one); }))},
+        {"wanted open ones counted", with(&Recipe::count, open_and(is_positive))},
+        {"barred open ones counted", with(&Recipe::count, open_and([](const Stated& one) { return !is_positive(one); }))},
         {"open amounts counted", with(&Recipe::count, open_and([](const Stated& one) { return one.line.kind == AMOUNT; }))},
         {"all lines counted", with(&Recipe::count, [](const Lines& lines) { return lines.size(); })},
         {"open lines in 7 bits", with(&Recipe::count, [=](const Lines& lines) { return open(lines) % 128; })},
@@ -215,6 +210,7 @@ inline List wrong_counts() {
 // Wrong in the range of the base, the literal and the list.
 inline List wrong_ranges() {
     auto list_of = [](size_t lines) { return [lines](size_t numbers) { return numbers % LINE == 0 && numbers <= LINE * lines; }; };
+    auto in_bits = [=](int bits) { return [=](size_t numbers) { return list_of(200)(numbers % (size_t{1} << bits)); }; };
     auto bases = [](int64_t least, int64_t most) { return [=](int64_t base) { return base >= least && base <= most; }; };
     auto literals = [](int32_t least, int32_t more) {
         return [=](int32_t literal, int32_t variables) { return literal >= least && literal <= 2 * variables + 1 + more; };
@@ -224,7 +220,11 @@ inline List wrong_ranges() {
     return noticed_by("answer", {
         {"200 lines refused", with(&Recipe::length, list_of(199))},
         {"201 lines accepted", with(&Recipe::length, list_of(201))},
-        {"any number of lines accepted", with(&Recipe::length, list_of(1000))},
+        {"any number of lines accepted", with(&Recipe::length, [](size_t numbers) { return numbers % LINE == 0; })},
+        {"over 300 lines accepted", with(&Recipe::length, [=](size_t numbers) { return list_of(200)(numbers) || (numbers % LINE == 0 && numbers > 900); })},
+        {"the length in 8 bits", with(&Recipe::length, in_bits(8))},
+        {"the length in 10 bits", with(&Recipe::length, in_bits(10))},
+        {"the length in 16 bits", with(&Recipe::length, in_bits(16))},
         {"no lines refused", with(&Recipe::length, [=](size_t numbers) { return numbers != 0 && list_of(200)(numbers); })},
         {"a rest of one number dropped", with(&Recipe::length, [](size_t numbers) { return numbers % LINE != 2 && numbers <= 600; })},
         {"a rest of two numbers dropped", with(&Recipe::length, [](size_t numbers) { return numbers % LINE != 1 && numbers <= 600; })},
@@ -327,7 +327,7 @@ inline bool is_20(uint64_t answer) { return answer == c_refusal(20); }
 inline uint64_t write_up_to_20(uint64_t answer, Lending& lent, const Lending& before) {
     Lending shorter = before;
     while (is_20(answer) && is_20(by_library(shorter))) shorter.rates.length -= LINE;
-    if (is_20(answer)) lent.amount = shorter.amount;
+    if (is_20(answer)) lent.amount() = shorter.amount();
     return answer;
 }
 
@@ -337,17 +337,14 @@ inline uint64_t read_behind(uint64_t answer, Lending& lent, const Lending& befor
     Lending longer = before;
     longer.rates.length += LINE;
     answer = by_library(longer);
-    lent.amount = longer.amount;
+    lent.amount() = longer.amount();
     return answer;
 }
 
 // The library's call; then what is lent is changed, whatever was answered.
 template <class Change>
 Method left_as(Change change) {
-    return then([change](uint64_t answer, Lending& lent, const Lending&) {
-        change(lent);
-        return answer;
-    });
+    return call_then_where(by_library, [](uint64_t) { return true; }, [change](Lending& lent, const Lending&) { change(lent); });
 }
 
 // Wrong in what is written and what stays, and in what is read.
@@ -359,12 +356,16 @@ inline List wrong_memory() {
         {"by 19", written_where(19)},
         {"by 20", written_where(20)},
         {"the amount up to 20 written", then(write_up_to_20)},
-        {"nothing written", where_priced([](Lending& lent, const Lending& before) { lent.amount = before.amount; })},
-        {"added to what was there", where_priced([](Lending& lent, const Lending& before) { lent.amount ^= before.amount; })},
-        {"amounts below 0 written as 0", where_priced([](Lending& lent, const Lending&) { lent.amount = std::max(lent.amount, int64_t{0}); })},
-        {"the amount in 32 bits", where_priced([](Lending& lent, const Lending&) { lent.amount = static_cast<int32_t>(lent.amount); })},
+        {"nothing written", where_priced([](Lending& lent, const Lending& before) { lent.amount() = before.amount(); })},
+        {"added to what was there", where_priced([](Lending& lent, const Lending& before) { lent.amount() ^= before.amount(); })},
+        {"amounts below 0 written as 0", where_priced([](Lending& lent, const Lending&) { lent.amount() = std::max(lent.amount(), int64_t{0}); })},
+        {"the amount in 32 bits", where_priced([](Lending& lent, const Lending&) { lent.amount() = static_cast<int32_t>(lent.amount()); })},
         {"one line more read", then(read_behind)},
     });
+    append(list, noticed_by("number beside the amount", {
+        {"the amount written twice", where_priced([](Lending& lent, const Lending&) { lent.amounts[2] = lent.amount(); })},
+        {"the number before the amount changed", left_as([](Lending& lent) { lent.amounts[0] ^= 1; })},
+    }));
     append(list, noticed_by("number of the book", {{"a number of the book changed", left_as([](Lending& lent) { lent.book.memory.back()++; })}}));
     append(list, noticed_by("number of the session", {{"a number of the session changed", left_as([](Lending& lent) { lent.session.memory.back()++; })}}));
     append(list, noticed_by("number of the list", {{"a number of the list changed", left_as([](Lending& lent) { lent.rates.memory.back()++; })}}));
@@ -394,10 +395,10 @@ inline uint64_t by_lookups(Lending& lent) {
     const Lending before = lent;
     recipe.order = [before](Lines lines) {
         for (Stated& one : lines) {
-            uint32_t feature = static_cast<uint32_t>(one.line.literal / 2);
-            uint64_t looked_up = tariff_lookup(before.book.memory.data(), before.book.length, before.session.memory.data(), before.session.length, feature);
-            uint32_t settled = one.line.literal % 2 == 0 ? TARIFF_IS_WANTED : TARIFF_IS_BARRED, state = tariff_state(looked_up);
-            one.state = state == TARIFF_IS_WANTED || state == TARIFF_IS_BARRED ? (state == settled ? State::TRUE : State::FALSE) : State::OPEN;
+            uint32_t variable = static_cast<uint32_t>(one.line.literal / 2);
+            uint64_t looked_up = tariff_lookup(before.book.memory.data(), before.book.length, before.session.memory.data(), before.session.length, variable);
+            uint32_t assigned = one.line.literal % 2 == 0 ? TARIFF_IS_WANTED : TARIFF_IS_BARRED, state = tariff_state(looked_up);
+            one.state = state == TARIFF_IS_WANTED || state == TARIFF_IS_BARRED ? (state == assigned ? State::TRUE : State::FALSE) : State::OPEN;
         }
         return lines;
     };

@@ -12,7 +12,7 @@
 
 namespace methods {
 
-// What is found of a call before its answer is settled.
+// What is found of a call before it is answered.
 struct Found {
     uint64_t examination = 0;  // the refusal of the trail, or 0
     bool conflict = false, bad_base = false, bad_list = false;
@@ -116,7 +116,7 @@ inline uint64_t price_by(const Recipe& recipe, Lending& lent) {
     apply_all(recipe, lent, lines, found);
     uint64_t refusal = recipe.refusal(found);
     if (refusal != 0) return c_refusal(refusal);
-    lent.amount = static_cast<int64_t>(found.amount);
+    lent.amount() = static_cast<int64_t>(found.amount);
     return recipe.count(lines);
 }
 

@@ -67,7 +67,7 @@ private:
 
     static bool has(const std::vector<int64_t>& numbers, int64_t number) { return std::find(numbers.begin(), numbers.end(), number) != numbers.end(); }
 
-    static bool has_settled_all(const Lending& lent, const Due&) { return lent.session.memory[TRAIL_LENGTH] == lent.book.memory[0]; }
+    static bool has_assigned_all(const Lending& lent, const Due&) { return lent.session.memory[TRAIL_LENGTH] == lent.book.memory[0]; }
 
     static bool applies_to(const Lending& lent, const Due& due, int32_t literal) {
         std::vector<Line> lines = lent.lines();
@@ -87,8 +87,8 @@ private:
             is_priced("V 1", [](L lent, D) { return lent.variables() == 1; }),
             is_priced("V 500", [](L lent, D) { return lent.variables() == 500; }),
             is_priced("the motor tariff", [](L lent, D) { return lent.book.memory[0] == 64 && lent.book.memory[1] == 159; }),
-            is_priced("all features settled", has_settled_all),
-            is_priced("all of 500", [](L lent, D due) { return lent.variables() == 500 && has_settled_all(lent, due); }),
+            is_priced("all features settled", has_assigned_all),
+            is_priced("all of 500", [](L lent, D due) { return lent.variables() == 500 && has_assigned_all(lent, due); }),
             is_priced("literal 2 true", [](L lent, D due) { return applies_to(lent, due, 2); }),
             is_priced("literal 2 V + 1 true", [](L lent, D due) { return applies_to(lent, due, 2 * lent.variables() + 1); }),
             is_priced("literal 1001 true", [](L lent, D due) { return applies_to(lent, due, 1001); }),
@@ -128,6 +128,8 @@ private:
             has_fault("-2^63", [](L lent, F) { return lent.base == std::numeric_limits<int64_t>::min(); }),
             has_fault("2^63 - 1", [](L lent, F) { return lent.base == std::numeric_limits<int64_t>::max(); }),
             has_fault("201 lines", [](L lent, F) { return lent.rates.length == 603; }),
+            has_fault("1,024 to 1,224", [](L lent, F) { return is_between(static_cast<int64_t>(lent.rates.length), LINE * 1024, LINE * 1224); }),
+            has_fault("65,536 and more", [](L lent, F) { return lent.rates.length >= LINE * 65536; }),
             has_fault("3 n + 1 numbers", [](L lent, F) { return lent.rates.length % LINE == 1; }),
             has_fault("3 n + 2", [](L lent, F) { return lent.rates.length % LINE == 2; }),
             has_bad_line("literal 1", [](L, Wrong line) { return line.literal == 1; }),

@@ -49,10 +49,10 @@ inline Rates times(int count, const Rates& line) {
 inline Formula listing() { return {4, {{1, 2, 3}, {-3, 4}, {-4, -2, 1}}}; }
 
 // One feature, which is wanted, and four, of which the first is barred and the others are open.
-inline Situation wanted() { return {{1, {}}, {1}}; }
-inline Situation barred() { return {{4, {}}, {-1}}; }
+inline Situation positive() { return {{1, {}}, {1}}; }
+inline Situation negative() { return {{4, {}}, {-1}}; }
 
-inline Situation in_contradiction() { return {{2, {{1, 2}, {1, -2}}}, {-1}}; }
+inline Situation conflicting() { return {{2, {{1, 2}, {1, -2}}}, {-1}}; }
 
 // The values of K1's page.
 inline Worklist page_values() {
@@ -65,22 +65,22 @@ inline Worklist page_values() {
         {"the listing, all settled", {listing(), {-1, -3}}, 12345, list, 0, 15449},
         {"its list reversed", {listing(), {-1, -3}}, 12345, reversed, 0, 15346},
         {"after -1 only", {listing(), {-1}}, 12345, list, 3, 11419},
-        {"an amount first", wanted(), 1000, joined({cents(1, 1000), parts(1, 100)}), 0, 2200},
-        {"thousandths first", wanted(), 1000, joined({parts(1, 100), cents(1, 1000)}), 0, 2100},
-        {"5 at -100", wanted(), 5, parts(1, -100), 0, 4},
-        {"-5 at 100", wanted(), 100, joined({cents(1, -105), parts(1, 100)}), 0, -6},
-        {"-5 at -100", wanted(), 100, joined({cents(1, -105), parts(1, -100)}), 0, -4},
-        {"open lines", barred(), 0, open_lines, 3, 9},
-        {"just the limit", wanted(), 976562500, to_the_limit, 0, 1000000000000},
-        {"one above it", wanted(), 976562500, joined({to_the_limit, cents(1, 1)}), c_refusal(20)},
-        {"one above it and back", wanted(), 976562500, joined({to_the_limit, cents(1, 1), cents(1, -1)}), c_refusal(20)},
-        {"just the limit below zero", wanted(), 0, below_zero, 0, -1000000000000},
-        {"one below it", wanted(), 0, joined({below_zero, cents(1, -1)}), c_refusal(20)},
-        {"one below it and back", wanted(), 0, joined({below_zero, cents(1, -1), cents(1, 1)}), c_refusal(20)},
-        {"14 with base -1", in_contradiction(), -1, {}, c_refusal(14)},
-        {"20 at line 11, 19 at line 12", wanted(), 976562500, joined({to_the_limit, cents(1, 1), cents(1, 10000001)}), c_refusal(19)},
-        {"19 at a false line", wanted(), 0, cents(-1, 10000001), c_refusal(19)},
-        {"no lines", wanted(), 77, {}, 0, 77},
+        {"an amount first", positive(), 1000, joined({cents(1, 1000), parts(1, 100)}), 0, 2200},
+        {"thousandths first", positive(), 1000, joined({parts(1, 100), cents(1, 1000)}), 0, 2100},
+        {"5 at -100", positive(), 5, parts(1, -100), 0, 4},
+        {"-5 at 100", positive(), 100, joined({cents(1, -105), parts(1, 100)}), 0, -6},
+        {"-5 at -100", positive(), 100, joined({cents(1, -105), parts(1, -100)}), 0, -4},
+        {"open lines", negative(), 0, open_lines, 3, 9},
+        {"just the limit", positive(), 976562500, to_the_limit, 0, 1000000000000},
+        {"one above it", positive(), 976562500, joined({to_the_limit, cents(1, 1)}), c_refusal(20)},
+        {"one above it and back", positive(), 976562500, joined({to_the_limit, cents(1, 1), cents(1, -1)}), c_refusal(20)},
+        {"just the limit below zero", positive(), 0, below_zero, 0, -1000000000000},
+        {"one below it", positive(), 0, joined({below_zero, cents(1, -1)}), c_refusal(20)},
+        {"one below it and back", positive(), 0, joined({below_zero, cents(1, -1), cents(1, 1)}), c_refusal(20)},
+        {"14 with base -1", conflicting(), -1, {}, c_refusal(14)},
+        {"20 at line 11, 19 at line 12", positive(), 976562500, joined({to_the_limit, cents(1, 1), cents(1, 10000001)}), c_refusal(19)},
+        {"19 at a false line", positive(), 0, cents(-1, 10000001), c_refusal(19)},
+        {"no lines", positive(), 77, {}, 0, 77},
     };
 }
 
@@ -88,9 +88,9 @@ inline Worklist page_values() {
 inline Worklist list_limits() {
     const Rates some = joined({cents(1, 5), cents(1, 6)});
     auto first = [&](size_t numbers) { return Rates(some.begin(), some.begin() + static_cast<std::ptrdiff_t>(numbers)); };
-    auto at_base = [](int64_t base, uint64_t answer) { return Worked{"base " + std::to_string(base), wanted(), base, {}, answer, base}; };
+    auto at_base = [](int64_t base, uint64_t answer) { return Worked{"base " + std::to_string(base), positive(), base, {}, answer, base}; };
     auto of_lines = [](int count, const Rates& line, uint64_t answer, int64_t amount) {
-        return Worked{std::to_string(count) + " lines", barred(), 0, times(count, line), answer, amount};
+        return Worked{std::to_string(count) + " lines", negative(), 0, times(count, line), answer, amount};
     };
     Worklist list{
         at_base(0, 0),
@@ -108,10 +108,12 @@ inline Worklist list_limits() {
     };
     for (const Rates& line : {cents(-1, 1), cents(1, 1), cents(2, 1)})
         for (int count : {201, 202, 300}) list.push_back(of_lines(count, line, c_refusal(19), 0));
-    for (size_t numbers : {1, 2, 4, 5}) list.push_back({"a part of a line", wanted(), 0, first(numbers), c_refusal(19)});
+    // The last three are a single line where their numbers are counted in 8, 10 and 16 bits.
+    for (int count : {301, 1000, 257, 1025, 65537}) list.push_back(of_lines(count, cents(-1, 1), c_refusal(19), 0));
+    for (size_t numbers : {1, 2, 4, 5}) list.push_back({"a part of a line", positive(), 0, first(numbers), c_refusal(19)});
     for (size_t numbers : {1, 2})
-        list.push_back({"200 lines and a part of one", wanted(), 0, joined({times(200, cents(1, 0)), first(numbers)}), c_refusal(19)});
-    list.push_back({"two lines", wanted(), 0, some, 0, 11});
+        list.push_back({"200 lines and a part of one", positive(), 0, joined({times(200, cents(1, 0)), first(numbers)}), c_refusal(19)});
+    list.push_back({"two lines", positive(), 0, some, 0, 11});
     return list;
 }
 
@@ -121,12 +123,12 @@ inline Worklist literal_limits() {
     for (int variables : {1, 4, 500}) {
         for (int decision : {variables, -variables}) {
             Situation last{{variables, {}}, {decision}};
-            bool single = variables == 1, is_wanted = decision > 0;
+            bool single = variables == 1, is_positive = decision > 0;
             auto on = [](int32_t literal) { return Rates{literal, AMOUNT, 7}; };
-            list.push_back({"literal 2", last, 1, on(2), single ? 0u : 1u, single && is_wanted ? 8 : 1});
-            list.push_back({"literal 3", last, 1, on(3), single ? 0u : 1u, single && !is_wanted ? 8 : 1});
-            list.push_back({"literal 2 V", last, 1, on(2 * variables), 0, is_wanted ? 8 : 1});
-            list.push_back({"literal 2 V + 1", last, 1, on(2 * variables + 1), 0, is_wanted ? 1 : 8});
+            list.push_back({"literal 2", last, 1, on(2), single ? 0u : 1u, single && is_positive ? 8 : 1});
+            list.push_back({"literal 3", last, 1, on(3), single ? 0u : 1u, single && !is_positive ? 8 : 1});
+            list.push_back({"literal 2 V", last, 1, on(2 * variables), 0, is_positive ? 8 : 1});
+            list.push_back({"literal 2 V + 1", last, 1, on(2 * variables + 1), 0, is_positive ? 1 : 8});
             for (int32_t literal : {1, 0, -1, -2, -3, -2 * variables, LEAST, LEAST + 2, GREATEST, 2 * variables + 2, 2 * variables + 3, 65538, 1002})
                 list.push_back({"literal " + std::to_string(literal), last, 1, on(literal), c_refusal(19)});
         }
@@ -139,7 +141,7 @@ inline Worklist value_limits() {
     Worklist list;
     for (int literal : {-1, 1, 2}) {
         auto put = [&](const Rates& line, uint64_t answer, int64_t amount) {
-            list.push_back({"kind and value " + std::to_string(line[1]) + " " + std::to_string(line[2]), barred(), 1000, line, answer, amount});
+            list.push_back({"kind and value " + std::to_string(line[1]) + " " + std::to_string(line[2]), negative(), 1000, line, answer, amount});
         };
         auto added = [&](const Rates& line, int64_t addend) { put(line, literal == 2 ? 1 : 0, literal < 0 ? 1000 + addend : 1000); };
         auto refused = [&](const Rates& line) { put(line, c_refusal(19), 0); };
@@ -167,7 +169,7 @@ inline Worklist halves() {
         for (int sign : {1, -1}) {
             std::string name = std::to_string(sign * half.start) + " at " + std::to_string(half.thousandths);
             Rates rates = joined({cents(1, sign * half.start), parts(1, half.thousandths)});
-            list.push_back({name, wanted(), 0, rates, 0, sign * half.amount});
+            list.push_back({name, positive(), 0, rates, 0, sign * half.amount});
         }
     return list;
 }
@@ -177,30 +179,30 @@ inline Worklist orders() {
     const int64_t base = 976562500;
     const Rates up = times(10, parts(1, 1000)), over = joined({up, cents(1, 1)});
     const Rates down = joined({times(24, cents(1, -10000000)), cents(1, -4140625), times(12, parts(1, 1000))}), under = joined({down, cents(1, -1)});
-    const Situation contradicted = in_contradiction();
+    const Situation conflict = conflicting();
     auto beyond = [&](const std::string& name, const Rates& behind) {
-        return Worklist{{"over, " + name, wanted(), base, joined({over, behind}), c_refusal(20)},
-                        {"under, " + name, wanted(), 0, joined({under, behind}), c_refusal(20)}};
+        return Worklist{{"over, " + name, positive(), base, joined({over, behind}), c_refusal(20)},
+                        {"under, " + name, positive(), 0, joined({under, behind}), c_refusal(20)}};
     };
     Worklist list{
-        {"one before the limit", wanted(), base, joined({up, cents(1, -1)}), 0, 999999999999},
-        {"one before it below zero", wanted(), 0, joined({down, cents(1, 1)}), 0, -999999999999},
-        {"the limit and a tenth less", wanted(), base, joined({up, parts(1, -100)}), 0, 900000000000},
-        {"the limit and all back", wanted(), base, joined({up, parts(1, -1000), cents(1, 3)}), 0, 3},
-        {"a thousandth over the limit", wanted(), base, joined({up, parts(1, 1)}), c_refusal(20)},
-        {"a thousandth under it", wanted(), 0, joined({down, parts(1, 1)}), c_refusal(20)},
-        {"a line that does not apply at the limit", wanted(), base, joined({up, cents(-1, 1), parts(-1, 1000)}), 0, 1000000000000},
-        {"from 1, 39 times doubled", wanted(), 1, times(39, parts(1, 1000)), 0, 549755813888},
-        {"from 1, 40 times doubled", wanted(), 1, times(40, parts(1, 1000)), c_refusal(20)},
-        {"from 1, 200 times doubled", wanted(), 1, times(200, parts(1, 1000)), c_refusal(20)},
-        {"20, then 19 by a literal", wanted(), base, joined({over, {1, AMOUNT, 0}}), c_refusal(19)},
-        {"19 by a kind, then 20", wanted(), base, joined({{2, 2, 0}, over}), c_refusal(19)},
-        {"20 and a list of 201", wanted(), base, joined({over, times(190, cents(1, 0))}), c_refusal(19)},
-        {"20 and a part of a line", wanted(), base, joined({over, {2}}), c_refusal(19)},
-        {"14 before 19 by the list", contradicted, 0, times(201, cents(1, 0)), c_refusal(14)},
-        {"14 before 19 by a line", contradicted, 0, {1, AMOUNT, 0}, c_refusal(14)},
-        {"14 before 20", contradicted, base, times(11, parts(-1, 1000)), c_refusal(14)},
-        {"14 with no lines", contradicted, 0, {}, c_refusal(14)},
+        {"one before the limit", positive(), base, joined({up, cents(1, -1)}), 0, 999999999999},
+        {"one before it below zero", positive(), 0, joined({down, cents(1, 1)}), 0, -999999999999},
+        {"the limit and a tenth less", positive(), base, joined({up, parts(1, -100)}), 0, 900000000000},
+        {"the limit and all back", positive(), base, joined({up, parts(1, -1000), cents(1, 3)}), 0, 3},
+        {"a thousandth over the limit", positive(), base, joined({up, parts(1, 1)}), c_refusal(20)},
+        {"a thousandth under it", positive(), 0, joined({down, parts(1, 1)}), c_refusal(20)},
+        {"a line that does not apply at the limit", positive(), base, joined({up, cents(-1, 1), parts(-1, 1000)}), 0, 1000000000000},
+        {"from 1, 39 times doubled", positive(), 1, times(39, parts(1, 1000)), 0, 549755813888},
+        {"from 1, 40 times doubled", positive(), 1, times(40, parts(1, 1000)), c_refusal(20)},
+        {"from 1, 200 times doubled", positive(), 1, times(200, parts(1, 1000)), c_refusal(20)},
+        {"20, then 19 by a literal", positive(), base, joined({over, {1, AMOUNT, 0}}), c_refusal(19)},
+        {"19 by a kind, then 20", positive(), base, joined({{2, 2, 0}, over}), c_refusal(19)},
+        {"20 and a list of 201", positive(), base, joined({over, times(190, cents(1, 0))}), c_refusal(19)},
+        {"20 and a part of a line", positive(), base, joined({over, {2}}), c_refusal(19)},
+        {"14 before 19 by the list", conflict, 0, times(201, cents(1, 0)), c_refusal(14)},
+        {"14 before 19 by a line", conflict, 0, {1, AMOUNT, 0}, c_refusal(14)},
+        {"14 before 20", conflict, base, times(11, parts(-1, 1000)), c_refusal(14)},
+        {"14 with no lines", conflict, 0, {}, c_refusal(14)},
         {"14 at the opening", {{1, {{1}, {-1}}}, {}}, 5, cents(1, 1), c_refusal(14)},
     };
     for (const Rates& behind : {cents(1, 0), cents(-1, 1), parts(1, -100), parts(1, -1000), joined({cents(1, 10000000), cents(1, -10000000)})})
@@ -209,7 +211,7 @@ inline Worklist orders() {
 }
 
 // All of the most features, barred one after the other.
-inline Situation all_barred() {
+inline Situation all_negative() {
     Situation situation{{MAX_VARIABLES, {}}, {}};
     for (int variable = 1; variable <= MAX_VARIABLES; variable++) situation.decisions.push_back(-variable);
     return situation;
@@ -220,11 +222,11 @@ inline Worklist counts() {
     return {
         {"all open", {listing(), {}}, 9, joined({cents(1, 1), parts(-2, 1000), cents(3, 1), cents(-4, 1)}), 4, 9},
         {"one feature, five lines", {listing(), {}}, 9, joined({times(3, cents(1, 1)), times(2, cents(-1, 1))}), 5, 9},
-        {"true, false and open", barred(), 9, joined({cents(1, 1), cents(-1, 1), cents(2, 1), cents(2, 1), cents(-2, 1)}), 3, 10},
-        {"a line that applies three times", barred(), 10, times(3, parts(-1, 500)), 0, 35},
-        {"150 open lines", barred(), 10, joined({times(150, cents(3, 1)), times(50, cents(-1, 1))}), 150, 60},
+        {"true, false and open", negative(), 9, joined({cents(1, 1), cents(-1, 1), cents(2, 1), cents(2, 1), cents(-2, 1)}), 3, 10},
+        {"a line that applies three times", negative(), 10, times(3, parts(-1, 500)), 0, 35},
+        {"150 open lines", negative(), 10, joined({times(150, cents(3, 1)), times(50, cents(-1, 1))}), 150, 60},
         {"all of 500 open", {{500, {}}, {}}, 3, joined({cents(1, 1), cents(-500, 1)}), 2, 3},
-        {"all of 500 settled", all_barred(), 0, joined({cents(-1, 1), cents(-500, 10), cents(500, 100), cents(-250, 1000)}), 0, 1011},
+        {"all of 500 settled", all_negative(), 0, joined({cents(-1, 1), cents(-500, 10), cents(500, 100), cents(-250, 1000)}), 0, 1011},
         {"what a decision forces", {{3, {{-1, 2}, {-2, -3}}}, {1}}, 0, joined({cents(1, 1), cents(2, 10), cents(-3, 100), cents(3, 1000)}), 0, 111},
         {"what the opening forces", {{2, {{-2}}}, {}}, 0, joined({cents(-2, 10), cents(2, 100), cents(1, 1000)}), 1, 10},
     };
@@ -260,7 +262,7 @@ inline Posed pose(const Worked& worked) {
     Library library = session_in(worked.situation);
     const Numbers &book = library.lent_book().numbers, &session = library.lent_session().numbers;
     Loan<int32_t> rates{joined({worked.rates, times(2, cents(1, 3))}), worked.rates.size()};
-    return {worked, {{book, book.size()}, {session, library.required_length()}, worked.base, rates, 1234567}};
+    return {worked, {{book, book.size()}, {session, library.required_length()}, worked.base, rates, {-1, 1234567, -1}}};
 }
 
 // The same with a book or a session at fault, the book first.
@@ -287,7 +289,7 @@ inline std::vector<Posed> posed_values() {
     std::vector<Posed> list;
     for (const Worked& worked : worked_values()) list.push_back(pose(worked));
     list.push_back(pose_long(page_values().front()));
-    for (const Situation& situation : {wanted(), in_contradiction()})
+    for (const Situation& situation : {positive(), conflicting()})
         for (int64_t base : {0, -1})
             for (size_t cut : {0, 1})
                 for (size_t book : {size_t{0}, size_t{3}})

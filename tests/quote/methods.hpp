@@ -93,19 +93,14 @@ Method then(Change change) {
 // The same where it quotes.
 template <class Change>
 Method where_quoted(Change change) {
-    return then([change](uint64_t answer, Lending& lent, const Lending& before) {
-        if (answer == QUOTED) change(lent, before);
-        return answer;
-    });
+    return call_then_where(by_library, [](uint64_t answer) { return answer == QUOTED; }, change);
 }
 
 // The same where it refuses by this number.
 template <class Change>
 Method where_refused(uint64_t number, Change change) {
-    return then([=](uint64_t answer, Lending& lent, const Lending&) {
-        if (answer == c_refusal(number)) change(lent);
-        return answer;
-    });
+    auto refused = [number](uint64_t answer) { return answer == c_refusal(number); };
+    return call_then_where(by_library, refused, [change](Lending& lent, const Lending&) { change(lent); });
 }
 
 template <class Change>

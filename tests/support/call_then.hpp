@@ -11,3 +11,12 @@ std::function<uint64_t(Lending&)> call_then(uint64_t (*call)(Lending&), Change c
         return change(answer, lent, before);
     };
 }
+
+// The same where the answer is such: what it left is changed, and the answer stays.
+template <class Lending, class Condition, class Change>
+std::function<uint64_t(Lending&)> call_then_where(uint64_t (*call)(Lending&), Condition condition, Change change) {
+    return call_then(call, [=](uint64_t answer, Lending& lent, const Lending& before) {
+        if (condition(answer)) change(lent, before);
+        return answer;
+    });
+}

@@ -1,4 +1,4 @@
--- Laws of lists: places, parts, one element more, tests of every element, lists one after the other, the first number.
+-- Laws of lists: places, parts, one element more, tests of every element, lists one after the other, the first number, any order.
 use Prim.Native.Nat.{ℕ, zero, suc, _+_, _-_, _≤_, _<_}
 use native.Mathlib.Nat.{suc-sub-suc, sub-zero}
 use native.Mathlib.Omega.{arith}

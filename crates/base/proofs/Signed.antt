@@ -29,7 +29,7 @@ size-sum (pos a) (negsuc b) = omega (arith, size-difference a (suc b))
 size-sum (negsuc a) (pos b) = omega (arith, size-difference b (suc a))
 size-sum (negsuc a) (negsuc b) = omega arith
 
-pub size-product : (a b : ℤ) → natAbs (a *ℤ b) ≡ natAbs a * natAbs b
+size-product : (a b : ℤ) → natAbs (a *ℤ b) ≡ natAbs a * natAbs b
 size-product (pos a) (pos b) = refl
 size-product (pos a) (negsuc b) = size-negated (pos (a * suc b))
 size-product (negsuc a) (pos b) = size-negated (pos (suc a * b))

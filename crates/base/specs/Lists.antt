@@ -1,4 +1,4 @@
--- Functions on lists that the definitions of the other crates use.
+-- Functions on lists that the definitions of the other crates use, and when two lists have the same elements.
 use Prim.Native.Nat.{ℕ, zero, suc, _+_}
 use mathlib.Core.Bool.{Bool, true, false, cond, not, _&&_, _||_}
 use mathlib.Core.List.{List, [], _∷_, _++_}

@@ -259,7 +259,7 @@ pub extern "C" fn tariff_quote(
     }
 }
 
-// Prices a settled session by a base in cents and a rate list. Accepted: the number of lines whose variable is open; the final amount goes to `amount`.
+// Prices what is assigned in a session by a base in cents and a rate list. Accepted: the number of lines whose variable is open; the final amount goes to `amount`.
 #[no_mangle]
 pub extern "C" fn tariff_price(
     book: &[u32],

@@ -14,7 +14,6 @@ use Rattle.run.specs.Calls.{decision, decideRefusal, refusal, performCall, step
 use Rattle.layout.specs.Layout.{lengthAt, valueNumber, levelNumber, nodeOf, watchLiteral, firstNode, behind, headNumber, linkNumber, watchNumber, encode, levelBefore, heldTrail, heldCells, chainFrom, heldLists, held}
 use Rattle.validation.specs.Validation.{hasReason, isJustified, isWatching, isGuarded, watchesHold, isFixpoint, isConflict, isListed, isValid, passes, callRefusal}
 use Rattle.rating.specs.Pricing.{literalOf, changeOf, linesOf, isKind, areLines, changeWithin, lineWithin, listWithin, baseWithin, rounded, applied, limited, stepped, pricedBy, openLines, priceRefusal, premiumAnswer}
-use Rattle.rating.specs.declared.Change.the-variants.{Thousandths}
 use Rattle.rating.specs.declared.Premium.{Premium}
 use Rattle.rating.specs.declared.Premium.the-variants.{Of, Refused}
 use Rattle.points.specs.Points.{listing, opposed}
@@ -63,9 +62,9 @@ pub record Points : Type 0 where
   pub less-below-zero : rounded (minus 499) ≡ pos 0
   pub second-half-below-zero : rounded (minus 2500) ≡ minus 3
   -- The addend is rounded, not the total; its sign is that of the product.
-  pub addend : applied (pos 5) (Thousandths (minus 100)) ≡ pos 4
-  pub minus-by-plus : applied (minus 5) (Thousandths (pos 100)) ≡ minus 6
-  pub minus-by-minus : applied (minus 5) (Thousandths (minus 100)) ≡ minus 4
+  pub addend : applied (pos 5) (changeOf (pos 1) (minus 100)) ≡ pos 4
+  pub minus-by-plus : applied (minus 5) (changeOf (pos 1) (pos 100)) ≡ minus 6
+  pub minus-by-minus : applied (minus 5) (changeOf (pos 1) (minus 100)) ≡ minus 4
   -- The listing after `-1` and `-3`: 14,845, 13,732, 15,449; in the other order; and after `-1` alone, with three lines open.
   pub worked : price assigned 12345 rates ≡ Of (pos 15449) 0
   pub worked-steps : price assigned 12345 (take 6 rates) ≡ Of (pos 13732) 0

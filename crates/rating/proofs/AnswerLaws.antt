@@ -1,4 +1,4 @@
--- The range of the base, and the refusals in their order.
+-- The range of the base, what figures tell, the refusals in their order, and what an answer tells.
 use Prim.Native.Nat.{ℕ, _≤_, _<_}
 use mathlib.Core.Bool.{Bool, true, false, cond, and-false}
 use mathlib.Core.List.{List}
@@ -8,7 +8,7 @@ use borrow.Author.Tests.{ltb-true, leb-true, eqb-true, eqb-false, ne-eqb}
 use lib.Dec.{T, leb, eqb}
 use lib.IntN.{ℤ, pos, negsuc, natAbs}
 use lib.Signed.{ltZ}
-use Rattle.base.proofs.Bools.{and-parts}
+use Rattle.base.proofs.Bools.{never, and-parts}
 use Rattle.book.specs.Numbers.{wellFormed, variablesOf, formulaOf}
 use Rattle.run.specs.Trail.{isTrue}
 use Rattle.run.specs.Run.{Run, inConflict}
@@ -35,11 +35,14 @@ unfolding baseWithin
 base-natural (pos n) e = refl
 base-natural (negsuc n) e = absurd (subst T e tt)
 
--- a base within its range is no running amount beyond its own
-pub base-small : (x : ℤ) → baseWithin x ≡ true → natAbs x ≤ maxRunning
+pub base-most : (x : ℤ) → baseWithin x ≡ true → natAbs x ≤ maxBase
 unfolding baseWithin
-base-small (pos n) e = omega (arith, leb-true n maxBase e)
-base-small (negsuc n) e = let z : _≡_ {A = ℕ} 0 1 = cc in absurd (omega arith)
+base-most (pos n) e = leb-true n maxBase e
+base-most (negsuc n) e = absurd (never e refl)
+
+-- so it is no running amount beyond its own limit
+pub base-small : (x : ℤ) → baseWithin x ≡ true → natAbs x ≤ maxRunning
+base-small x e = omega (arith, base-most x e)
 
 module _ (book session : List ℕ) where
   abbrev run : Run
@@ -85,15 +88,15 @@ module _ (book session : List ℕ) where
 
     module _ (quiet : 0 ≡ sessionRefusal) where
       own : cond right 0 19 ≡ priceRefusal book session base numbers
-      unfolding priceRefusal callRefusal
-      own = go (wellFormed book) (passes (formulaOf book) session) (inConflict run) quiet
+      unfolding priceRefusal
+      own =
+          let none = none-first book session (runRefusal true) quiet in
+          let out = go (inConflict run) (quiet ∙ own-refusal book session none (runRefusal true)) in
+          sym (own-refusal book session none (runRefusal right) ∙ rw out)
         where
-          go : (w p c : Bool) → _≡_ {A = ℕ} 0 (cond w (cond p (cond c 14 0) 12) 11)
-              → _≡_ {A = ℕ} (cond right 0 19) (cond w (cond p (cond c 14 (cond right 0 19)) 12) 11)
-          go true true true q = absurd (omega arith)
-          go true true false q = refl
-          go true false c q = absurd (omega arith)
-          go false p c q = absurd (omega arith)
+          go : (c : Bool) → _≡_ {A = ℕ} 0 (cond c 14 0) → c ≡ false
+          go true q = absurd (omega arith)
+          go false q = refl
 
       pub base-outside : false ≡ baseWithin base → 19 ≡ priceRefusal book session base numbers
       base-outside e = rw (← e) at own

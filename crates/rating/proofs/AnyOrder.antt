@@ -1,11 +1,10 @@
--- Lines with amounts may stand in any order.
+-- A list that has amounts only may stand in any order.
 use Prim.Native.Nat.{ℕ, _+_, _*_, _≤_}
 use mathlib.Core.Bool.{Bool, true, false, cond, _&&_}
 use mathlib.Core.List.{List, [], _∷_}
 use mathlib.Core.Path.{_≡_, refl, sym, ap, _∙_}
 use native.Mathlib.Omega.{arith}
-use borrow.Author.Tests.{leb-true}
-use lib.IntN.{ℤ, pos, negsuc, natAbs, _+ℤ_, +ℤ-idr, +ℤ-assoc, +ℤ-comm}
+use lib.IntN.{ℤ, pos, natAbs, _+ℤ_, +ℤ-idr, +ℤ-assoc, +ℤ-comm}
 use lib.ListN.{length}
 use Rattle.base.specs.Lists.{all, Reordered, unmoved, swapped, behind, further}
 use Rattle.base.proofs.Bools.{and-parts, never}
@@ -16,22 +15,20 @@ use Rattle.run.specs.Trail.{isTrue}
 use Rattle.run.specs.Run.{inConflict}
 use Rattle.layout.specs.Layout.{held}
 use Rattle.validation.specs.Validation.{passes}
-use Rattle.rating.specs.Pricing.{maxAmount, maxBase, maxRunning, linesOf, areLines, changeWithin, lineWithin, listWithin, baseWithin, applied, limited, stepped, pricedBy, openLines, ratesWithin, premiumAnswer}
-use Rattle.rating.specs.Statement.{isAmount}
+use Rattle.rating.specs.Pricing.{maxAmount, maxRunning, linesOf, areLines, changeWithin, lineWithin, listWithin, baseWithin, applied, limited, stepped, pricedBy, openLines, ratesWithin, premiumAnswer}
+use Rattle.rating.specs.Statement.{isAmount, amountsOnly}
 use Rattle.rating.specs.declared.Change.{Change}
 use Rattle.rating.specs.declared.Change.the-variants.{Amount, Thousandths}
 use Rattle.rating.specs.declared.Priced.{Priced}
 use Rattle.rating.specs.declared.Priced.the-variants.{At}
 use Rattle.rating.specs.declared.RateLine.{RateLine}
 use Rattle.rating.proofs.PricingLaws.{amount-small, limited-within, open-first, list-parts, line-parts}
+use Rattle.rating.proofs.AnswerLaws.{base-most}
 use Rattle.rating.proofs.Refusals.{said, state, open-count, said-is}
 
 abbrev cents : Change → ℤ
 cents (Amount amount) = amount
 cents (Thousandths part) = pos 0
-
-abbrev amounts : List RateLine → Bool
-amounts lines = all (λ (line : RateLine). isAmount (line .change)) lines
 
 module _ (holds : ℕ → Bool) where
   -- what a line adds where it applies, and what all add
@@ -77,12 +74,12 @@ module _ (holds : ℕ → Bool) where
       go true (Thousandths part) a h = absurd (never a refl)
 
   -- so few lines stay within the limit
-  all-reached : (v : ℕ) (lines : List RateLine) (x : ℤ) → amounts lines ≡ true → all (lineWithin v) lines ≡ true
+  all-reached : (v : ℕ) (lines : List RateLine) (x : ℤ) → amountsOnly lines ≡ true → all (lineWithin v) lines ≡ true
       → natAbs x + maxAmount * length lines ≤ maxRunning → pricedBy holds (At x) lines ≡ At (x +ℤ added lines)
   unfolding pricedBy all added
   all-reached v [] x a w h = ap At (sym (+ℤ-idr x))
   all-reached v (line ∷ lines) x a w h =
-      let amount = and-parts (isAmount (line .change)) (amounts lines) a in
+      let amount = and-parts (isAmount (line .change)) (amountsOnly lines) a in
       let within = and-parts (lineWithin v line) (all (lineWithin v) lines) w in
       let small = adds-small line (amount .0) (line-parts v line (within .0) .1) in
       let size = size-sum x (adds line) in
@@ -90,14 +87,9 @@ module _ (holds : ℕ → Bool) where
       ∙ all-reached v lines (x +ℤ adds line) (amount .1) (within .1) (omega (arith, size, small, h))
       ∙ ap At (+ℤ-assoc x (adds line) (added lines))
 
-base-most : (x : ℤ) → baseWithin x ≡ true → natAbs x ≤ maxBase
-unfolding baseWithin
-base-most (pos n) e = leb-true n maxBase e
-base-most (negsuc n) e = absurd (never e refl)
-
--- Two lists of whole lines, the same ones in any order, all with amounts, are answered alike, refused or not; 20 never comes.
+-- Two lists of whole lines, the same ones in any order, all with amounts, are answered alike, refused or not.
 module _ (book session : List ℕ) (base : ℤ) (numbers others : List ℤ) (whole : areLines numbers ≡ true) (whole-too : areLines others ≡ true)
-    (r : Reordered (linesOf numbers) (linesOf others)) (all-amounts : amounts (linesOf numbers) ≡ true) where
+    (r : Reordered (linesOf numbers) (linesOf others)) (all-amounts : amountsOnly (linesOf numbers) ≡ true) where
   abbrev holds : ℕ → Bool
   holds = isTrue (held (formulaOf book) session .trail)
 

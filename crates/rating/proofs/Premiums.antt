@@ -1,6 +1,6 @@
 -- What holds of every premium: its amount is bounded at every line, and it follows from the book, the decisions, the base and the list.
 use Prim.Native.Nat.{ℕ, _≤_}
-use mathlib.Core.Bool.{Bool, true, false, cond, _||_}
+use mathlib.Core.Bool.{Bool, true, false, cond, not, _||_}
 use mathlib.Core.List.{List, [], _∷_}
 use mathlib.Core.Logic.{_↔_, _⊎_, inl, inr}
 use mathlib.Core.Path.{_≡_, refl, sym, ap, ap₂, _∙_}
@@ -28,8 +28,8 @@ use Rattle.session.specs.declared.Assigned.the-variants as assigned
 use Rattle.session.proofs.PassedLaws.{well, facts, own-refusal}
 use Rattle.session.proofs.LookupLaws.{shows-open}
 use Rattle.session.proofs.Statements.{statement-2}
-use Rattle.rating.specs.Pricing.{maxRunning, linesOf, lineWithin, pricedBy, openLines, offered, premiumOf, ratesWithin, runRefusal, priceRefusal, premiumAnswer}
-use Rattle.rating.specs.Statement.{oneIfOpen, after, Bounded}
+use Rattle.rating.specs.Pricing.{maxRunning, linesOf, lineWithin, pricedBy, openLines, oneIfOpen, offered, premiumOf, ratesWithin, runRefusal, priceRefusal, premiumAnswer}
+use Rattle.rating.specs.Statement.{after, Bounded}
 use Rattle.rating.specs.declared.Priced.{Priced}
 use Rattle.rating.specs.declared.Priced.the-variants.{At, Beyond}
 use Rattle.rating.specs.declared.RateLine.{RateLine}
@@ -37,10 +37,10 @@ use Rattle.rating.specs.declared.Premium.the-variants.{Of}
 use Rattle.rating.proofs.PricingLaws.{Small, at-small, priced-small, priced-append, priced-beyond, open-one, open-first, open-few, priced-alike, open-alike, list-parts, line-parts}
 use Rattle.rating.proofs.AnswerLaws.{base-small, accepted-price, answered}
 
-neither : (a b : Bool) → (_≡_ {A = ℕ} (cond (a || b) 0 1) 1) ↔ ((a ≡ false) × (b ≡ false))
-neither true b = (λ e. absurd (omega (arith, e)), λ k. absurd (never refl (k .0)))
-neither false true = (λ e. absurd (omega (arith, e)), λ k. absurd (never refl (k .1)))
-neither false false = (λ e. (refl, refl), λ k. refl)
+open-is-neither : (a b : Bool) → (_≡_ {A = ℕ} (cond (not (a || b)) 1 0) 1) ↔ ((a ≡ false) × (b ≡ false))
+open-is-neither true b = (λ e. absurd (omega (arith, e)), λ k. absurd (never refl (k .0)))
+open-is-neither false true = (λ e. absurd (omega (arith, e)), λ k. absurd (never refl (k .1)))
+open-is-neither false false = (λ e. (refl, refl), λ k. refl)
 
 -- A line is open exactly where lookup tells that its variable is.
 pub open-by-lookup : (book session : List ℕ) → readRefusal book session ≡ 0 → (l : ℕ) → literalWithin (variablesOf book) l ≡ true
@@ -56,7 +56,7 @@ open-by-lookup book session e l within = go (same-variable (positive (variableOf
         shows-open book session (sym e) (variableOf l) (omega (arith, parts .0)) (omega (arith, parts .1))
 
     is-open : (oneIfOpen holds l ≡ 1) ↔ ((holds l ≡ false) × (holds (opposite l) ≡ false))
-    is-open = neither (holds l) (holds (opposite l))
+    is-open = open-is-neither (holds l) (holds (opposite l))
 
     go : (positive (variableOf l) ≡ l) ⊎ (positive (variableOf l) ≡ opposite l) → (oneIfOpen holds l ≡ 1) ↔ (lookupAnswer book session (variableOf l) ≡ assigned.Open)
     go (inl is) =
@@ -139,7 +139,7 @@ module _ (book session : List ℕ) (base : ℤ) (numbers : List ℤ) where
       none-open (variableOf l) (omega (arith, parts .0)) (omega (arith, parts .1)) (open-by-lookup book session (known .passed) l within .0 is-open))
       lines (list-parts (variablesOf book) numbers (known .list-right) .2)
 
--- what a session that passes is answered
+-- what a session that passes is answered, without 11 and 12
 own-answer : (book session : List ℕ) (base : ℤ) (numbers : List ℤ) → 0 ≡ readRefusal book session
     → let run = held (formulaOf book) session in
     premiumAnswer book session base numbers

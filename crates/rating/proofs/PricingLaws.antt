@@ -1,6 +1,6 @@
 -- Laws of the definitions: sizes, the limit of the running amount, lists of lines one after the other, open lines.
 use Prim.Native.Nat.{ℕ, suc, _+_, _*_, _/_, _≤_, _<_}
-use mathlib.Core.Bool.{Bool, true, false, cond, not, _&&_, _||_}
+use mathlib.Core.Bool.{Bool, true, false, cond, _&&_}
 use mathlib.Core.List.{List, [], _∷_, _++_}
 use mathlib.Core.Path.{_≡_, refl}
 use native.Mathlib.Omega.{arith}
@@ -13,8 +13,7 @@ use Rattle.base.proofs.Bools.{and-parts}
 use Rattle.base.proofs.Signed.{size-negated, product-within}
 use Rattle.book.specs.Formula.{literalWithin}
 use Rattle.run.specs.Trail.{opposite}
-use Rattle.rating.specs.Pricing.{maxLines, maxAmount, maxThousandths, maxRunning, linesOf, areLines, changeWithin, lineWithin, listWithin, rounded, applied, limited, stepped, pricedBy, openLines}
-use Rattle.rating.specs.Statement.{oneIfOpen}
+use Rattle.rating.specs.Pricing.{maxLines, maxAmount, maxThousandths, maxRunning, linesOf, areLines, changeWithin, lineWithin, listWithin, rounded, applied, limited, stepped, pricedBy, isOpen, openLines, oneIfOpen}
 use Rattle.rating.specs.declared.Change.the-variants.{Amount, Thousandths}
 use Rattle.rating.specs.declared.Priced.{Priced}
 use Rattle.rating.specs.declared.Priced.the-variants.{At, Beyond}
@@ -56,7 +55,7 @@ Small state = (running : ℤ) → state ≡ At running → natAbs running ≤ ma
 pub at-small : (x : ℤ) → natAbs x ≤ maxRunning → Small (At x)
 at-small x h running e = let same : running ≡ x = cc in rw same h
 
-pub limited-small : (x : ℤ) → Small (limited x)
+limited-small : (x : ℤ) → Small (limited x)
 unfolding limited
 limited-small x running e = go (leb (natAbs x) maxRunning) refl e
   where
@@ -98,22 +97,19 @@ module _ (holds : ℕ → Bool) where
   unmet Beyond line e = refl
 
   pub open-one : (l : ℕ) → oneIfOpen holds l ≤ 1
-  open-one l = go (holds l || holds (opposite l))
+  open-one l = go (isOpen holds l)
     where
-      go : (t : Bool) → cond t 0 1 ≤ 1
+      go : (t : Bool) → cond t 1 0 ≤ 1
       go true = omega arith
       go false = omega arith
 
   pub open-first : (line : RateLine) (lines : List RateLine) → openLines holds (line ∷ lines) ≡ oneIfOpen holds (line .literal) + openLines holds lines
   unfolding openLines keep
-  open-first line lines = go (holds (line .literal) || holds (opposite (line .literal)))
+  open-first line lines = go (isOpen holds (line .literal)) (keep (λ (l : RateLine). isOpen holds (l .literal)) lines)
     where
-      isOpen : RateLine → Bool
-      isOpen l = not (holds (l .literal) || holds (opposite (l .literal)))
-
-      go : (t : Bool) → length (cond (not t) (line ∷ keep isOpen lines) (keep isOpen lines)) ≡ cond t 0 1 + length (keep isOpen lines)
-      go true = omega arith
-      go false = omega arith
+      go : (t : Bool) (kept : List RateLine) → length (cond t (line ∷ kept) kept) ≡ cond t 1 0 + length kept
+      go true kept = omega arith
+      go false kept = omega arith
 
   pub open-append : (front back : List RateLine) → openLines holds (front ++ back) ≡ openLines holds front + openLines holds back
   unfolding openLines keep

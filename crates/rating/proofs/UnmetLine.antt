@@ -15,8 +15,8 @@ use Rattle.run.specs.Trail.{Entry, isTrue}
 use Rattle.run.specs.Run.{inConflict}
 use Rattle.layout.specs.Layout.{held}
 use Rattle.validation.specs.Validation.{passes}
-use Rattle.rating.specs.Pricing.{maxLines, literalOf, changeOf, linesOf, isKind, areLines, lineWithin, listWithin, pricedBy, openLines, ratesWithin, premiumAnswer}
-use Rattle.rating.specs.Statement.{oneIfOpen, withOpen}
+use Rattle.rating.specs.Pricing.{maxLines, literalOf, changeOf, linesOf, isKind, areLines, lineWithin, listWithin, pricedBy, openLines, oneIfOpen, ratesWithin, premiumAnswer}
+use Rattle.rating.specs.Statement.{withOpen}
 use Rattle.rating.specs.declared.Priced.{Priced}
 use Rattle.rating.specs.declared.Priced.the-variants.{At, Beyond}
 use Rattle.rating.specs.declared.RateLine.{RateLine}

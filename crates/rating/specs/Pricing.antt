@@ -103,9 +103,16 @@ unfoldable pub pricedBy : (ℕ → Bool) → Priced → List RateLine → Priced
 pricedBy holds state [] = state
 pricedBy holds state (line ∷ lines) = pricedBy holds (stepped holds state line) lines
 
--- The lines whose variable (the paper's feature) is open, each line by itself: neither its literal is true nor the opposite one.
+-- The variable (the paper's feature) of a literal is open: neither the literal is true nor the opposite one.
+abbrev pub isOpen : (ℕ → Bool) → ℕ → Bool
+isOpen holds l = not (holds l || holds (opposite l))
+
+-- The number of lines whose variable is open, each line by itself; of one line it is 1 or 0.
 unfoldable pub openLines : (ℕ → Bool) → List RateLine → ℕ
-openLines holds lines = length (keep (λ (line : RateLine). not (holds (line .literal) || holds (opposite (line .literal)))) lines)
+openLines holds lines = length (keep (λ (line : RateLine). isOpen holds (line .literal)) lines)
+
+abbrev pub oneIfOpen : (ℕ → Bool) → ℕ → ℕ
+oneIfOpen holds l = cond (isOpen holds l) 1 0
 
 -- The answer: the refusal number; 20 where the running amount went beyond its limit; else the final amount and the number of open lines.
 abbrev pub offered : ℕ → Priced → Premium
@@ -124,7 +131,7 @@ ratesWithin book base numbers = baseWithin base && listWithin (variablesOf book)
 abbrev pub runRefusal : Bool → Run → ℕ
 runRefusal within run = cond (inConflict run) 14 (cond within 0 19)
 
--- On a book, of a session, of a base and of a rate list, all as lent numbers: 11, 12, then these.
+-- On a book, of a session and a rate list, as lent numbers, and of a base: 11, 12, then these.
 module _ (book session : List ℕ) (base : ℤ) (numbers : List ℤ) where
   unfoldable pub priceRefusal : ℕ
   priceRefusal = callRefusal book session (runRefusal (ratesWithin book base numbers))

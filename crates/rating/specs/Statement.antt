@@ -1,13 +1,14 @@
--- What the theorems of `rating` say: what the nearest cents are, how an amount is bounded, where 20 arises, and which refusal comes when.
+-- What the theorems of `rating` say: what the nearest cents are, how an amount is bounded, where 20 arises, which refusal comes when, and which lists are alike.
 use Prim.Native.Nat.{ℕ, _+_, _≤_, _<_}
-use mathlib.Core.Bool.{Bool, true, false, cond, _||_}
+use mathlib.Core.Bool.{Bool, true, false}
 use mathlib.Core.List.{List, _∷_, _++_}
 use mathlib.Core.Logic.{_↔_, _⊎_}
 use mathlib.Core.Path.{_≡_}
 use lib.IntN.{ℤ, pos, natAbs, _-ℤ_, _*ℤ_}
 use lib.ListN.{length, take}
+use Rattle.base.specs.Lists.{all}
 use Rattle.book.specs.Numbers.{wellFormed, formulaOf}
-use Rattle.run.specs.Trail.{opposite, isTrue}
+use Rattle.run.specs.Trail.{isTrue}
 use Rattle.run.specs.Run.{Run, inConflict}
 use Rattle.layout.specs.Layout.{held}
 use Rattle.validation.specs.Validation.{passes}
@@ -40,18 +41,18 @@ pub record GoesBeyond (holds : ℕ → Bool) (start : ℤ) (lines : List RateLin
   pub applies : holds (line .literal) ≡ true
   pub beyond : maxRunning < natAbs (applied running (line .change))
 
--- 1 where the variable of a literal is open, else 0
-abbrev pub oneIfOpen : (ℕ → Bool) → ℕ → ℕ
-oneIfOpen holds l = cond (holds l || holds (opposite l)) 0 1
-
 -- so many open lines more
 abbrev pub withOpen : ℕ → Premium → Premium
 withOpen n (Of amount count) = Of amount (n + count)
 withOpen n (Refused number) = Refused number
 
+-- a list that has amounts only
 abbrev pub isAmount : Change → Bool
 isAmount (Amount cents) = true
 isAmount (Thousandths part) = false
+
+abbrev pub amountsOnly : List RateLine → Bool
+amountsOnly lines = all (λ (line : RateLine). isAmount (line .change)) lines
 
 module _ (book session : List ℕ) (base : ℤ) (numbers : List ℤ) where
   abbrev run : Run
@@ -64,7 +65,7 @@ module _ (book session : List ℕ) (base : ℤ) (numbers : List ℤ) where
   abbrev pub after : ℕ → Priced
   after j = pricedBy (isTrue (run .trail)) (At base) (take j lines)
 
-  -- An amount and a number of open lines that are answered.
+  -- After every line there is an amount, and it is within its limit; the last one is the answer's. No more lines are open than there are, and these are at most 200.
   pub record Bounded (amount : ℤ) (n : ℕ) : Type 0 where
     pub every-line : (j : ℕ) → (running : ℤ) × (after j ≡ At running) × (natAbs running ≤ maxRunning)
     pub last : after (length lines) ≡ At amount

@@ -21,15 +21,15 @@ use signed::size_of;
 const MAX_BASE: u64 = 1000000000;
 
 // What a line does to the running amount: it adds an amount in cents, or a change in thousandths of it.
-pub enum Change {
+enum Change {
     Amount(i32),
     Thousandths(i32),
 }
 
 // A line of a rate list: where its literal is true, it applies.
-pub struct RateLine {
-    pub literal: u32,
-    pub change: Change,
+struct RateLine {
+    literal: u32,
+    change: Change,
 }
 
 // The running amount in cents, or that it went beyond its limit after a line.

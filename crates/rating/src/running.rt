@@ -1,4 +1,4 @@
-// The running amount: what a line does to it, and all lines in list order.
+// The running amount: what a line does to it, and all lines in list order; and how many lines are open.
 ghost use mathlib.Core.Path.{_≡_};
 ghost use mathlib.Core.Bool.{true};
 ghost use Prim.Native.Nat.{ℕ, _≤_};
@@ -10,8 +10,7 @@ ghost use Rattle.layout.specs.Layout.{held};
 ghost use Rattle.layout.specs.Values.{valueIn};
 ghost use Rattle.validation.specs.Validation.{readRefusal};
 ghost use Rattle.rating.specs.Pricing as pricing;
-ghost use Rattle.rating.specs.Pricing.{maxRunning, changeWithin, listWithin, linesOf, stepped, pricedBy, openLines};
-ghost use Rattle.rating.specs.Statement.{oneIfOpen};
+ghost use Rattle.rating.specs.Pricing.{maxRunning, changeWithin, listWithin, linesOf, stepped, pricedBy, openLines, oneIfOpen};
 ghost use Rattle.rating.specs.declared.Priced.the-variants as priced;
 use crate::Change;
 use crate::Priced;
@@ -48,7 +47,7 @@ fn limited(running: i64) -> Priced
     Priced::At(running)
 }
 
-// A line whose literal is true, or is not.
+// The running amount after a line, which applies or does not.
 fn step(state: Priced, line: RateLine, applies: bool) -> Priced
     requires { ⌜ ((running : ℤ) → state ≡ priced.At running → natAbs running ≤ maxRunning) × (changeWithin (line .change) ≡ true) ⌝ }
     ensures { λ r. ⌜ r ≡ stepped (λ (l : ℕ). applies) state line ⌝ }

@@ -14,8 +14,7 @@ use Rattle.run.specs.Trail.{Entry, isTrue}
 use Rattle.layout.specs.Values.{valueIn}
 use Rattle.layout.specs.declared.values.Value.the-variants.{Open, True, False}
 use Rattle.layout.proofs.ValueLaws.{value-open, value-true, value-false}
-use Rattle.rating.specs.Pricing.{maxLines, linesOf, changeWithin, lineWithin, listWithin, applied, limited, stepped, pricedBy, openLines}
-use Rattle.rating.specs.Statement.{oneIfOpen}
+use Rattle.rating.specs.Pricing.{maxLines, linesOf, changeWithin, lineWithin, listWithin, applied, limited, stepped, pricedBy, openLines, oneIfOpen}
 use Rattle.rating.specs.declared.Priced.{Priced}
 use Rattle.rating.specs.declared.Priced.the-variants.{At, Beyond}
 use Rattle.rating.specs.declared.RateLine.{RateLine}

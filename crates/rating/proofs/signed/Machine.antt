@@ -1,4 +1,4 @@
--- What the machine reads back of sums, products and quotients whose operands are small.
+-- What the machine reads back of sums and products that fit, and of a number with 500 added or taken off, divided by 1000.
 use Prim.Native.Nat.{ℕ, suc, _+_, _/_, _≤_, _<_}
 use mathlib.Core.Bool.{true, false}
 use mathlib.Core.Path.{_≡_, refl, sym, ap, subst, _∙_}
