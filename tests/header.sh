@@ -62,9 +62,9 @@ limits_of_the_crates() {
     echo "TARIFF_BOOK $((clauses + literals + 4))"
     echo "TARIFF_CHAPTERS $(limit CHAPTERS)"
     echo "TARIFF_FEATURES $variables"
-    echo "TARIFF_MOST_LINES $(limit MAX_LINES)"
     echo "TARIFF_MOST_AMOUNT $(limit MAX_AMOUNT)"
     echo "TARIFF_MOST_BASE $(limit MAX_BASE)"
+    echo "TARIFF_MOST_LINES $(limit MAX_LINES)"
     echo "TARIFF_MOST_RUNNING $(limit MAX_RUNNING)"
     echo "TARIFF_MOST_THOUSANDTHS $(limit MAX_THOUSANDTHS)"
     echo "TARIFF_RULES $clauses"
@@ -77,7 +77,7 @@ limit() {
 
 # A macro under the name of a function is none of the limits, and stands out.
 limits_in_c() {
-    gcc -E -dM "$1" | sed -nE 's/^#define ((TARIFF_(BOOK|CHAPTERS|FEATURES|LINES|MOST_[A-Z]+|RULES|SESSION) |tariff_).*)$/\1/p' | sort
+    gcc -E -dM "$1" | sed -nE 's/^#define ((TARIFF_(BOOK|CHAPTERS|FEATURES|MOST_[A-Z]+|RULES|SESSION) |tariff_).*)$/\1/p' | sort
 }
 
 tidy() {
