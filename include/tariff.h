@@ -19,7 +19,8 @@ extern "C" {
 /* An answer is its kind times 2^32, and a number. */
 #define TARIFF_ACCEPTED 0 /* the number is what the call is asked for */
 #define TARIFF_CONFLICT 1 /* the number names the rule that is contradicted, from 1 */
-#define TARIFF_REFUSED 2  /* the number is that of docs/REFUSALS.md; nothing lent has changed */
+#define TARIFF_REFUSED 2  /* the number is that of docs/REFUSALS.md; nothing lent has changed, but for the age that tariff_check_bands names */
+#define TARIFF_FALSE 3    /* of tariff_check_bands alone: the table is false, that is outside its ranges; there is no number */
 
 static inline uint32_t tariff_kind(uint64_t answer) { return (uint32_t)(answer >> 32); }
 static inline uint32_t tariff_number(uint64_t answer) { return (uint32_t)answer; }
@@ -68,8 +69,16 @@ static inline uint32_t tariff_filed(uint64_t answer) { return answer == 1; }
 #define TARIFF_MOST_BASE 1000000000
 #define TARIFF_MOST_RUNNING 1000000000000
 
+/* A table of age bands has three numbers for each band, the bands in any order: its first age, its last age, both in it, and its factor in thousandths. */
+#define TARIFF_BAND_NUMBERS 3
+
+/* The limits of a table: bands; years of an age; thousandths of a factor, which is at least 0. */
+#define TARIFF_MOST_BANDS 64
+#define TARIFF_MOST_AGE 120
+#define TARIFF_MOST_FACTOR 5000
+
 /* A lent part is a pointer and how many it holds; no two lent parts of a call overlap, and nobody else writes them meanwhile. No pointer is
- * NULL, but for a part of length 0. A call writes only what its comment says, and where it refuses, nothing. What a session call is lent is examined first:
+ * NULL, but for a part of length 0. A call writes only what its comment says, and where it refuses, nothing, but for the age of tariff_check_bands. What a session call is lent is examined first:
  * a book at fault is 11, a session at fault or too short 12. */
 
 /* Reads the text of a rule book into book numbers: a repeated literal stands once; a rule with a feature
@@ -162,6 +171,21 @@ uint64_t tariff_quote(const uint32_t *book, size_t book_length, const uint8_t *s
  * than the two, or `lines` has over 200 lines or is no whole number of them; then 20 where after a line the running amount is outside its range above. */
 uint64_t tariff_price(const uint32_t *book, size_t book_length, const uint32_t *session, size_t session_length,
                       int64_t base, const int32_t *lines, size_t lines_length, int64_t *amount);
+
+/* Whether a table of age bands is good: every age from 0 to 120 lies in exactly one band.
+ * Accepted: 0, it is good. Writes nothing.
+ * Refuses: 25 where the lowest age at fault lies in no band, 26 where it lies in several. Writes that age to *age, and nothing else.
+ * TARIFF_FALSE where a band's last age is over 120 or under its first, its factor is over 5,000, there are over 64 bands or `table` is no whole number of
+ * them, whatever ages are at fault. Writes nothing. */
+uint64_t tariff_check_bands(const uint32_t *table, size_t table_length, uint32_t *age);
+
+/* The premium as tariff_price gives it, from another start on: before the first line the base becomes base x factor of the customer's age / 1000, rounded to
+ * the nearest cent, halves up. The range of the base is that of `base` as lent.
+ * Accepted: the number of lines whose feature is open. Writes the final amount to *amount.
+ * Refuses: 11, 12; 14 in contradiction; then 19 as tariff_price does, and where `age` is over 120 or the table is false; then 25 or 26 where the table is not
+ * good, whatever the age; then 20. */
+uint64_t tariff_price_for_age(const uint32_t *book, size_t book_length, const uint32_t *session, size_t session_length, int64_t base,
+                              const uint32_t *table, size_t table_length, uint32_t age, const int32_t *lines, size_t lines_length, int64_t *amount);
 
 #ifdef __cplusplus
 }

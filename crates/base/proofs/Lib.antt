@@ -7,6 +7,8 @@ pub mod Same
 pub mod Signed
 pub mod Until
 pub mod Copies
+pub mod Counts
+pub mod Threes
 pub mod ForAll
 pub mod Occurrences
 pub mod Firsts

@@ -30,6 +30,21 @@ module _ {A : Type 0} where
   empty [] = true
   empty (x ∷ xs) = false
 
+module _ {A : Type 0} where
+  -- what each three elements make, three by three; one or two left over make nothing
+  unfoldable pub byThree : {B : Type 0} → (A → A → A → B) → List A → List B
+  byThree make [] = []
+  byThree make (x ∷ []) = []
+  byThree make (x ∷ y ∷ []) = []
+  byThree make (x ∷ y ∷ z ∷ xs) = make x y z ∷ byThree make xs
+
+  -- none is left over, and the test holds of each three
+  unfoldable pub allThrees : (A → A → A → Bool) → List A → Bool
+  allThrees test [] = true
+  allThrees test (x ∷ []) = false
+  allThrees test (x ∷ y ∷ []) = false
+  allThrees test (x ∷ y ∷ z ∷ xs) = test x y z && allThrees test xs
+
 -- the number stands in the list
 unfoldable pub member : ℕ → List ℕ → Bool
 member x [] = false

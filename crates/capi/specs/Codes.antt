@@ -1,4 +1,4 @@
--- The answers as numbers for C: the kind times 2 ^ 32, and the number. Kind 0 is accepted, 1 a conflict, 2 a refusal.
+-- The answers as numbers for C: the kind times 2 ^ 32, and the number. Kind 0 is accepted, 1 a conflict, 2 a refusal, 3 a table of age bands reported as false.
 use Prim.Native.Nat.{ℕ, _+_, _*_, _/_, _%_, _≤_, _<_}
 use mathlib.Core.Path.{_≡_}
 use mathlib.Core.Logic.{_⊎_}
@@ -24,6 +24,8 @@ use Rattle.chapters.specs.declared.Filing.{Filing}
 use Rattle.chapters.specs.declared.Filing.the-variants as filing
 use Rattle.quote.specs.declared.Quote.{Quote}
 use Rattle.quote.specs.declared.Quote.the-variants as quote
+use Rattle.bands.specs.declared.Checked.{Checked}
+use Rattle.bands.specs.declared.Checked.the-variants as checked
 use Rattle.rating.specs.declared.Premium.{Premium}
 use Rattle.rating.specs.declared.Premium.the-variants as premium
 
@@ -116,3 +118,15 @@ premiumCode (premium.Refused number) = refusalCode number
 abbrev pub amountAfter : Premium → ℤ → ℤ
 amountAfter (premium.Of amount count) before = amount
 amountAfter (premium.Refused number) before = before
+
+-- the checker of age bands: 0 where the table is good; 25 or 26 as a refusal's number, and the lowest age at fault goes to a place of its own; kind 3 with no
+-- number where the table is reported as false, which leaves that place, as a good table does
+abbrev pub checkedCode : Checked → ℕ
+checkedCode checked.Good = 0
+checkedCode checked.Malformed = 3 * 4294967296
+checkedCode (checked.Fault number age) = refusalCode number
+
+abbrev pub ageAfter : Checked → ℕ → ℕ
+ageAfter checked.Good before = before
+ageAfter checked.Malformed before = before
+ageAfter (checked.Fault number age) before = age

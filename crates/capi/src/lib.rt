@@ -1,4 +1,4 @@
-// The calls of book, session, chapters, quote and rating for C: slices as a pointer and a length, answers as one number.
+// The calls of book, session, chapters, quote, bands and rating for C: slices as a pointer and a length, answers as one number.
 ghost use mathlib.Core.Path.{_≡_};
 ghost use lib.ListN.{length, set};
 ghost use Rattle.book.specs.Reading.{readText};
@@ -7,8 +7,10 @@ ghost use Rattle.run.specs.Run.{trailBehind};
 ghost use Rattle.session.specs.Outcomes.{requiredAnswer, openAnswer, openNumbers, decideAnswer, decideNumbers, backtrackAnswer, backtrackNumbers, fixAnswer, fixNumbers, fixedAnswer, lookupAnswer, figuresAnswer, totalAnswer, copyAnswer, copyNumbers, checksOfRun};
 ghost use Rattle.chapters.specs.Chapters.{chapterAnswer, chapterNumbers};
 ghost use Rattle.quote.specs.Quote.{quoteAnswer};
+ghost use Rattle.bands.specs.Bands.{checkedTable};
 ghost use Rattle.rating.specs.Pricing.{premiumAnswer};
-ghost use Rattle.capi.specs.Codes.{refusalCode, readingCode, answerCode, backCode, assignedCode, countCode, figuresCode, figuresAfter, sumCode, sumAfter, filingCode, quoteCode, quoteAfter, ceilingAfter, premiumCode, amountAfter};
+ghost use Rattle.rating.specs.Ages.{ageAnswer};
+ghost use Rattle.capi.specs.Codes.{refusalCode, readingCode, answerCode, backCode, assignedCode, countCode, figuresCode, figuresAfter, sumCode, sumAfter, filingCode, quoteCode, quoteAfter, ceilingAfter, premiumCode, amountAfter, checkedCode, ageAfter};
 
 fn refusal(number: u32) -> u64
     ensures { λ r. ⌜ r ≡ refusalCode number ⌝ }
@@ -74,6 +76,23 @@ fn filing_code(filing: chapters::Filing) -> u64
     match filing {
         chapters::Filing::Filed(written) => written as u64,
         chapters::Filing::Refused(number) => refusal(number),
+    }
+}
+
+// The number of open lines, or the refusal; the amount goes to `amount`.
+fn premium_code(premium: rating::Premium, amount: &mut i64) -> u64
+    ensures { λ r. ⌜ r ≡ premiumCode premium ⌝ }
+    ensures { λ r. ⌜ now (amount .exit) ≡ amountAfter premium (now (amount .entry)) ⌝ }
+{
+    match premium {
+        rating::Premium::Of {
+            amount: cents,
+            open_lines,
+        } => {
+            *amount = cents;
+            open_lines as u64
+        }
+        rating::Premium::Refused(number) => refusal(number),
     }
 }
 
@@ -271,14 +290,44 @@ pub extern "C" fn tariff_price(
     ensures { λ r. ⌜ r ≡ premiumCode (premiumAnswer (now (book .entry)) (now (session .entry)) base (now (lines .entry))) ⌝ }
     ensures { λ r. ⌜ now (amount .exit) ≡ amountAfter (premiumAnswer (now (book .entry)) (now (session .entry)) base (now (lines .entry))) (now (amount .entry)) ⌝ }
 {
-    match rating::price(book, session, base, lines) {
-        rating::Premium::Of {
-            amount: cents,
-            open_lines,
+    premium_code(rating::price(book, session, base, lines), amount)
+}
+
+// Checks a table of age bands. Good: 0; a refusal's number with the lowest age at fault in `age`; or that the table is false.
+#[no_mangle]
+pub extern "C" fn tariff_check_bands(table: &[u32], age: &mut u32) -> u64
+    ensures { λ r. ⌜ r ≡ checkedCode (checkedTable (now (table .entry))) ⌝ }
+    ensures { λ r. ⌜ now (age .exit) ≡ ageAfter (checkedTable (now (table .entry))) (now (age .entry)) ⌝ }
+{
+    match bands::check_bands(table) {
+        bands::Checked::Good => 0,
+        bands::Checked::Malformed => 3 * 4294967296,
+        bands::Checked::Fault {
+            number,
+            age: lowest,
         } => {
-            *amount = cents;
-            open_lines as u64
+            *age = lowest;
+            refusal(number)
         }
-        rating::Premium::Refused(number) => refusal(number),
     }
+}
+
+// Prices as `tariff_price` does, from the base on that the table of age bands scales for the customer's age.
+#[no_mangle]
+pub extern "C" fn tariff_price_for_age(
+    book: &[u32],
+    session: &[u32],
+    base: i64,
+    table: &[u32],
+    age: u32,
+    lines: &[i32],
+    amount: &mut i64,
+) -> u64
+    ensures { λ r. ⌜ r ≡ premiumCode (ageAnswer (now (book .entry)) (now (session .entry)) base (now (table .entry)) age (now (lines .entry))) ⌝ }
+    ensures { λ r. ⌜ now (amount .exit) ≡ amountAfter (ageAnswer (now (book .entry)) (now (session .entry)) base (now (table .entry)) age (now (lines .entry))) (now (amount .entry)) ⌝ }
+{
+    premium_code(
+        rating::price_for_age(book, session, base, table, age, lines),
+        amount,
+    )
 }

@@ -4,7 +4,7 @@ use mathlib.Core.Path.{_≡_, refl}
 use mathlib.Core.List.{List, [], _∷_, _++_}
 use lib.IntN.{ℤ, pos, negℤ}
 use lib.ListN.{set, take}
-use Rattle.base.specs.Lists.{all, any, keep, flat, member, distinct, same, times, table, upTo, without}
+use Rattle.base.specs.Lists.{all, any, keep, flat, byThree, allThrees, member, distinct, same, times, table, upTo, without}
 use Rattle.book.specs.Formula.{literalWithin, soundClause, sound}
 use Rattle.book.specs.Numbers.{starts, numbersOf, clausesFrom, rising, wellFormed}
 use Rattle.run.specs.Trail.{opposite, place, literalAt, isTrue, decisions, level, lowered, cut}
@@ -118,7 +118,7 @@ pub record Points : Type 0 where
   pub range-before-limit : price assigned 976562500 (several 10 (part 3 (pos 1000)) ++ (amount 3 (pos 1) ++ amount 10 (pos 1))) ≡ Refused 19
 
 pub points : Points
-unfolding several literalOf changeOf linesOf isKind areLines changeWithin lineWithin listWithin baseWithin rounded applied limited stepped pricedBy openLines priceRefusal premiumAnswer any distinct times table upTo soundClause sound starts numbersOf clausesFrom rising wellFormed valueNumber levelNumber nodeOf watchLiteral firstNode behind headNumber linkNumber watchNumber encode levelBefore heldTrail heldCells chainFrom heldLists held hasReason isJustified isWatching isGuarded watchesHold isFixpoint isConflict isListed isValid passes callRefusal all flat member same literalWithin opposite place literalAt isTrue decisions level lowered cut watched next oneMore scanFrom scan pushFront without takeOut addChecks otherWatch moved scannedAction withConflict action onTrail withWatches counted performAction visit readList propagateFrom firstCell watchAll fresh assignUnit assignUnits openRun decide decideRefusal refusal performCall step stepAll reference keep
+unfolding several byThree allThrees literalOf changeOf linesOf isKind areLines changeWithin lineWithin listWithin baseWithin rounded applied limited stepped pricedBy openLines priceRefusal premiumAnswer any distinct times table upTo soundClause sound starts numbersOf clausesFrom rising wellFormed valueNumber levelNumber nodeOf watchLiteral firstNode behind headNumber linkNumber watchNumber encode levelBefore heldTrail heldCells chainFrom heldLists held hasReason isJustified isWatching isGuarded watchesHold isFixpoint isConflict isListed isValid passes callRefusal all flat member same literalWithin opposite place literalAt isTrue decisions level lowered cut watched next oneMore scanFrom scan pushFront without takeOut addChecks otherWatch moved scannedAction withConflict action onTrail withWatches counted performAction visit readList propagateFrom firstCell watchAll fresh assignUnit assignUnits openRun decide decideRefusal refusal performCall step stepAll reference keep
 points =
     record {
       half = refl;

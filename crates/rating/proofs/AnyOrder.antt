@@ -8,6 +8,7 @@ use lib.IntN.{ℤ, pos, natAbs, _+ℤ_, +ℤ-idr, +ℤ-assoc, +ℤ-comm}
 use lib.ListN.{length}
 use Rattle.base.specs.Lists.{all, Reordered, unmoved, swapped, behind, further}
 use Rattle.base.proofs.Bools.{and-parts, never}
+use Rattle.base.proofs.Counts.{count-reordered}
 use Rattle.base.proofs.Lists.{length-reordered, all-reordered}
 use Rattle.base.proofs.Signed.{size-sum}
 use Rattle.book.specs.Numbers.{wellFormed, variablesOf, formulaOf}
@@ -22,7 +23,7 @@ use Rattle.rating.specs.declared.Change.the-variants.{Amount, Thousandth
 use Rattle.rating.specs.declared.Priced.{Priced}
 use Rattle.rating.specs.declared.Priced.the-variants.{At}
 use Rattle.rating.specs.declared.RateLine.{RateLine}
-use Rattle.rating.proofs.PricingLaws.{amount-small, limited-within, open-first, list-parts, line-parts}
+use Rattle.rating.proofs.PricingLaws.{amount-small, limited-within, lineOpen, list-parts, line-parts}
 use Rattle.rating.proofs.AnswerLaws.{base-most}
 use Rattle.rating.proofs.Refusals.{said, state, open-count, said-is}
 
@@ -48,11 +49,8 @@ module _ (holds : ℕ → Bool) where
   added-reordered (further r s) = added-reordered r ∙ added-reordered s
 
   open-reordered : {xs ys : List RateLine} → Reordered xs ys → openLines holds xs ≡ openLines holds ys
-  open-reordered unmoved = refl
-  open-reordered (swapped {x = a} {y = b} {xs = xs}) =
-      omega (arith, open-first holds a (b ∷ xs), open-first holds b xs, open-first holds b (a ∷ xs), open-first holds a xs)
-  open-reordered (behind {x = a} {xs = xs} {ys = ys} r) = omega (arith, open-first holds a xs, open-first holds a ys, open-reordered r)
-  open-reordered (further r s) = open-reordered r ∙ open-reordered s
+  unfolding openLines
+  open-reordered r = count-reordered (lineOpen holds) r
 
   -- a line with an amount adds little, and where the sum is within the limit it is reached
   adds-small : (line : RateLine) → isAmount (line .change) ≡ true → changeWithin (line .change) ≡ true → natAbs (adds line) ≤ maxAmount

@@ -1,6 +1,7 @@
 -- The laws and theorems of `rating`.
 pub mod PricingLaws
 pub mod AnswerLaws
+pub mod AgeLaws
 pub mod Rounding
 pub mod Refusals
 pub mod Premiums

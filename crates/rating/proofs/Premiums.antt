@@ -10,6 +10,7 @@ use lib.ListN.{length, take, drop, take-append-drop}
 use lib.Seq.{take-all}
 use Rattle.base.specs.Lists.{all, member, keep}
 use Rattle.base.proofs.Bools.{never, and-parts, same-test}
+use Rattle.base.proofs.Counts.{one-most, count-few}
 use Rattle.book.specs.Formula.{variableOf, positive, negative, literalWithin, sound}
 use Rattle.book.specs.Numbers.{variablesOf, formulaOf}
 use Rattle.book.proofs.SoundLaws.{literal-parts}
@@ -34,7 +35,7 @@ use Rattle.rating.specs.declared.Priced.{Priced}
 use Rattle.rating.specs.declared.Priced.the-variants.{At, Beyond}
 use Rattle.rating.specs.declared.RateLine.{RateLine}
 use Rattle.rating.specs.declared.Premium.the-variants.{Of}
-use Rattle.rating.proofs.PricingLaws.{Small, at-small, priced-small, priced-append, priced-beyond, open-one, open-first, open-few, priced-alike, open-alike, list-parts, line-parts}
+use Rattle.rating.proofs.PricingLaws.{Small, at-small, priced-small, priced-append, priced-beyond, lineOpen, open-first, priced-alike, open-alike, list-parts, line-parts}
 use Rattle.rating.proofs.AnswerLaws.{base-small, accepted-price, answered}
 
 open-is-neither : (a b : Bool) → (_≡_ {A = ℕ} (cond (not (a || b)) 1 0) 1) ↔ ((a ≡ false) × (b ≡ false))
@@ -78,7 +79,7 @@ none-open-lines holds v shut [] e = refl
 none-open-lines holds v shut (line ∷ lines) e =
     let parts = and-parts (lineWithin v line) (all (lineWithin v) lines) e in
     let not-one = shut (line .literal) (line-parts v line (parts .0) .0) in
-    omega (arith, open-first holds line lines, open-one holds (line .literal), not-one, none-open-lines holds v shut lines (parts .1))
+    omega (arith, open-first holds line lines, one-most (lineOpen holds) line, not-one, none-open-lines holds v shut lines (parts .1))
 
 module _ (book session : List ℕ) (base : ℤ) (numbers : List ℤ) where
   abbrev run : Run
@@ -89,10 +90,12 @@ module _ (book session : List ℕ) (base : ℤ) (numbers : List ℤ) where
 
   -- An amount that is answered is within its limit at every line.
   pub amount-bounded : (amount : ℤ) (n : ℕ) → premiumAnswer book session base numbers ≡ Of amount n → Bounded book session base numbers amount n
+  unfolding openLines
   amount-bounded amount n e =
       let told = answered book session base numbers amount n e in
       let known = accepted-price book session base numbers (told .0) in
       let small = at-small base (base-small base (known .base-right)) in
+      let few-of-them : openLines (isTrue (run .trail)) lines ≤ length lines = count-few (lineOpen (isTrue (run .trail))) lines in
       let whole : after book session base numbers (length lines) ≡ At amount
       = ap (pricedBy (isTrue (run .trail)) (At base)) (take-all (length lines) lines (omega arith)) ∙ told .1 in
       record {
@@ -102,7 +105,7 @@ module _ (book session : List ℕ) (base : ℤ) (numbers : List ℤ) where
             go (drop j lines) (after book session base numbers j) refl parted (priced-small (isTrue (run .trail)) (take j lines) (At base) small);
         last = whole;
         amount-within = priced-small (isTrue (run .trail)) lines (At base) small amount (told .1);
-        few-open = omega (arith, told .2, open-few (isTrue (run .trail)) lines);
+        few-open = omega (arith, told .2, few-of-them);
         few-lines = list-parts (variablesOf book) numbers (known .list-right) .1;
       }
     where

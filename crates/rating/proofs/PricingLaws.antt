@@ -1,6 +1,6 @@
 -- Laws of the definitions: sizes, the limit of the running amount, lists of lines one after the other, open lines.
 use Prim.Native.Nat.{ℕ, suc, _+_, _*_, _/_, _≤_, _<_}
-use mathlib.Core.Bool.{Bool, true, false, cond, _&&_}
+use mathlib.Core.Bool.{Bool, true, false, cond}
 use mathlib.Core.List.{List, [], _∷_, _++_}
 use mathlib.Core.Path.{_≡_, refl}
 use native.Mathlib.Omega.{arith}
@@ -10,10 +10,12 @@ use lib.IntN.{ℤ, pos, negsuc, natAbs, _*ℤ_}
 use lib.ListN.{length}
 use Rattle.base.specs.Lists.{all, keep}
 use Rattle.base.proofs.Bools.{and-parts}
+use Rattle.base.proofs.Counts.{count-first}
 use Rattle.base.proofs.Signed.{size-negated, product-within}
+use Rattle.base.proofs.Threes.{ranged-parts}
 use Rattle.book.specs.Formula.{literalWithin}
 use Rattle.run.specs.Trail.{opposite}
-use Rattle.rating.specs.Pricing.{maxLines, maxAmount, maxThousandths, maxRunning, linesOf, areLines, changeWithin, lineWithin, listWithin, rounded, applied, limited, stepped, pricedBy, isOpen, openLines, oneIfOpen}
+use Rattle.rating.specs.Pricing.{maxLines, maxAmount, maxThousandths, maxRunning, lineOf, linesOf, ofKind, areLines, changeWithin, lineWithin, listWithin, rounded, applied, limited, stepped, pricedBy, isOpen, openLines, oneIfOpen}
 use Rattle.rating.specs.declared.Change.the-variants.{Amount, Thousandths}
 use Rattle.rating.specs.declared.Priced.{Priced}
 use Rattle.rating.specs.declared.Priced.the-variants.{At, Beyond}
@@ -28,7 +30,7 @@ pub thousandths-small : (part : ℤ) → changeWithin (Thousandths part) ≡ tru
 unfolding changeWithin
 thousandths-small part e = leb-true (natAbs part) maxThousandths e
 
-rounded-size : (x : ℤ) → natAbs (rounded x) ≡ (natAbs x + 500) / 1000
+pub rounded-size : (x : ℤ) → natAbs (rounded x) ≡ (natAbs x + 500) / 1000
 unfolding rounded
 rounded-size (pos n) = refl
 rounded-size (negsuc n) = size-negated (pos ((suc n + 500) / 1000))
@@ -96,30 +98,13 @@ module _ (holds : ℕ → Bool) where
   unmet (At x) line e = rw e
   unmet Beyond line e = refl
 
-  pub open-one : (l : ℕ) → oneIfOpen holds l ≤ 1
-  open-one l = go (isOpen holds l)
-    where
-      go : (t : Bool) → cond t 1 0 ≤ 1
-      go true = omega arith
-      go false = omega arith
+  -- the test of a line that `openLines` counts by
+  abbrev pub lineOpen : RateLine → Bool
+  lineOpen line = isOpen holds (line .literal)
 
   pub open-first : (line : RateLine) (lines : List RateLine) → openLines holds (line ∷ lines) ≡ oneIfOpen holds (line .literal) + openLines holds lines
-  unfolding openLines keep
-  open-first line lines = go (isOpen holds (line .literal)) (keep (λ (l : RateLine). isOpen holds (l .literal)) lines)
-    where
-      go : (t : Bool) (kept : List RateLine) → length (cond t (line ∷ kept) kept) ≡ cond t 1 0 + length kept
-      go true kept = omega arith
-      go false kept = omega arith
-
-  pub open-append : (front back : List RateLine) → openLines holds (front ++ back) ≡ openLines holds front + openLines holds back
-  unfolding openLines keep
-  open-append [] back = omega arith
-  open-append (line ∷ front) back = omega (arith, open-first line (front ++ back), open-first line front, open-append front back)
-
-  pub open-few : (lines : List RateLine) → openLines holds lines ≤ length lines
-  unfolding openLines keep
-  open-few [] = omega arith
-  open-few (line ∷ lines) = omega (arith, open-first line lines, open-few lines, open-one (line .literal))
+  unfolding openLines
+  open-first line lines = count-first lineOpen line lines
 
 -- tests that agree come to the same
 module _ (f g : ℕ → Bool) (agree : (l : ℕ) → f l ≡ g l) where
@@ -143,11 +128,8 @@ module _ (f g : ℕ → Bool) (agree : (l : ℕ) → f l ≡ g l) where
 -- the parts of a list within its ranges, and of a line
 pub list-parts : (v : ℕ) (numbers : List ℤ) → listWithin v numbers ≡ true
     → (areLines numbers ≡ true) × (length (linesOf numbers) ≤ maxLines) × (all (lineWithin v) (linesOf numbers) ≡ true)
-unfolding listWithin
-list-parts v numbers e =
-    let both = and-parts (areLines numbers && leb (length (linesOf numbers)) maxLines) (all (lineWithin v) (linesOf numbers)) e in
-    let counted = and-parts (areLines numbers) (leb (length (linesOf numbers)) maxLines) (both .0) in
-    (counted .0, leb-true (length (linesOf numbers)) maxLines (counted .1), both .1)
+unfolding listWithin areLines linesOf
+list-parts v numbers e = ranged-parts ofKind lineOf maxLines (lineWithin v) numbers e
 
 pub line-parts : (v : ℕ) (line : RateLine) → lineWithin v line ≡ true → (literalWithin v (line .literal) ≡ true) × (changeWithin (line .change) ≡ true)
 unfolding lineWithin

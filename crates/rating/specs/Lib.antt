@@ -1,3 +1,4 @@
 -- The definitions of `rating`.
 pub mod Pricing
+pub mod Ages
 pub mod Statement

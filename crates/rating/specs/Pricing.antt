@@ -1,11 +1,11 @@
 -- Request K1, premium in cents from a settled session: the rate list, how its lines change the running amount, and what a call that prices answers.
 use Prim.Native.Nat.{ℕ, zero, suc, _+_, _/_}
-use mathlib.Core.Bool.{Bool, true, false, cond, not, _&&_, _||_}
+use mathlib.Core.Bool.{Bool, false, cond, not, _&&_, _||_}
 use mathlib.Core.List.{List, [], _∷_}
 use lib.Dec.{leb}
 use lib.ListN.{length}
 use lib.IntN.{ℤ, pos, negsuc, negℤ, natAbs, _+ℤ_, _*ℤ_}
-use Rattle.base.specs.Lists.{all, keep}
+use Rattle.base.specs.Lists.{all, keep, byThree, allThrees}
 use Rattle.book.specs.Formula.{literalWithin}
 use Rattle.book.specs.Numbers.{variablesOf, formulaOf}
 use Rattle.run.specs.Trail.{opposite, isTrue}
@@ -48,22 +48,22 @@ changeOf (pos zero) value = Amount value
 changeOf (pos (suc n)) value = Thousandths value
 changeOf (negsuc n) value = Thousandths value
 
+abbrev pub lineOf : ℤ → ℤ → ℤ → RateLine
+lineOf literal kind value = record { literal = literalOf literal; change = changeOf kind value }
+
 unfoldable pub linesOf : List ℤ → List RateLine
-linesOf [] = []
-linesOf (literal ∷ []) = []
-linesOf (literal ∷ kind ∷ []) = []
-linesOf (literal ∷ kind ∷ value ∷ numbers) = record { literal = literalOf literal; change = changeOf kind value } ∷ linesOf numbers
+linesOf numbers = byThree lineOf numbers
 
 -- the numbers are whole lines, each of one of the two kinds
 unfoldable pub isKind : ℤ → Bool
 isKind (pos n) = leb n 1
 isKind (negsuc n) = false
 
+abbrev pub ofKind : ℤ → ℤ → ℤ → Bool
+ofKind literal kind value = isKind kind
+
 unfoldable pub areLines : List ℤ → Bool
-areLines [] = true
-areLines (literal ∷ []) = false
-areLines (literal ∷ kind ∷ []) = false
-areLines (literal ∷ kind ∷ value ∷ numbers) = isKind kind && areLines numbers
+areLines numbers = allThrees ofKind numbers
 
 -- The ranges, with literals of so many variables.
 unfoldable pub changeWithin : Change → Bool

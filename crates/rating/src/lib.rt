@@ -1,4 +1,4 @@
-// Premium in cents (request K1): a rate list is applied to what is assigned (the paper's settled) in a session.
+// Premium in cents (requests K1 and K9): a rate list is applied to what is assigned (the paper's settled) in a session, from a base on that age bands may scale.
 mod lines;
 mod running;
 mod signed;
@@ -11,11 +11,16 @@ ghost use Rattle.book.specs.Numbers.{variablesOf, formulaOf};
 ghost use Rattle.layout.specs.Layout.{held};
 ghost use Rattle.validation.specs.Validation.{callRefusal, readRefusal};
 ghost use Rattle.session.specs.Outcomes.{accepted};
+ghost use Rattle.bands.specs.Bands.{maxFactor};
 ghost use Rattle.rating.specs.Pricing.{maxRunning, baseWithin, listWithin, linesOf, runRefusal, priceRefusal, premiumOf, premiumAnswer};
+ghost use Rattle.rating.specs.Ages as ages;
+ghost use Rattle.rating.specs.Ages.{ageAnswer};
 use lines::list_within;
 use running::apply_all;
 use running::open_lines;
+use signed::product;
 use signed::size_of;
+use signed::to_cents;
 
 // The largest base (`maxBase`).
 const MAX_BASE: u64 = 1000000000;
@@ -114,4 +119,33 @@ pub fn price(book: &[u32], session: &[u32], base: i64, lines: &[i32]) -> Premium
         return Premium::Refused(refused);
     }
     premium_of(book, session, base, lines)
+}
+
+// A base times the factor of an age, in whole cents.
+fn scaled(base: i64, factor: u32) -> i64
+    requires { ⌜ (baseWithin base ≡ true) × (factor ≤ maxFactor) ⌝ }
+    ensures { λ r. ⌜ r ≡ ages.scaled base factor ⌝ }
+{
+    to_cents(product(base, factor as i64))
+}
+
+// Prices as `price` does, from the base on that the table of age bands scales for the customer's age.
+pub fn price_for_age(
+    book: &[u32],
+    session: &[u32],
+    base: i64,
+    table: &[u32],
+    age: u32,
+    lines: &[i32],
+) -> Premium
+    ensures { λ r. ⌜ r ≡ ageAnswer (now (book .entry)) (now (session .entry)) base (now (table .entry)) age (now (lines .entry)) ⌝ }
+{
+    let refused = price_refusal(book, session, base, lines);
+    if refused != 0 {
+        return Premium::Refused(refused);
+    }
+    match bands::factor_at(table, age) {
+        bands::Factor::Of(factor) => premium_of(book, session, scaled(base, factor), lines),
+        bands::Factor::Refused(number) => Premium::Refused(number),
+    }
 }

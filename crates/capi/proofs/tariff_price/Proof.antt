@@ -1,5 +1,5 @@
 -- `tariff_price` meets its contract. Assumes nothing.
-use mathlib.Core.Path.{_≡_, sym, ap, _∙_}
+use mathlib.Core.Path.{_≡_, ap, _∙_}
 use borrow.Author.Needs.{needs}
 use denote.Ref.{now}
 use lib.IntN.{ℤ}
@@ -14,17 +14,8 @@ use Rattle.capi.proofs.tariff_price.Tie as tie
 price-requires : tie.Need-price-requires
 price-requires c κs = search needs
 
-enum-known-cents : tie.Need-enum-known-cents
-enum-known-cents c = search needs
-
-cast-result : tie.Need-cast-result
-cast-result c = search needs
-
-enum-known-number : tie.Need-enum-known-number
-enum-known-number c = search needs
-
-refusal-requires : tie.Need-refusal-requires
-refusal-requires c κs = search needs
+premium-code-requires : tie.Need-premium-code-requires
+premium-code-requires c κs = search needs
 
 -- the premium is told, of the base as it came
 told : (c : tie.After-price) →
@@ -37,20 +28,10 @@ told c =
 
 returns : tie.Need-returns
 returns c =
-    let field = c .before .cents .given in
-    let after-price = c .before .before .before in
-    let is = sym (field .1) ∙ told after-price in (
-      ap premiumCode is,
-      toZ-ofZ w64 (field .0 .0) (record { sfits = c .known-told .given .0 .1 }) ∙ ap (λ (p : Premium). amountAfter p (now (after-price .before .before .before .args .amount))) is,
-    )
-
-returns-2 : tie.Need-returns-2
-returns-2 c =
-    let after-price = c .before .before .before .before in
-    let is = sym (c .before .before .number .given .1) ∙ told after-price in (
-      c .refusal .ensures ∙ ap premiumCode is,
-      ap (λ (p : Premium). amountAfter p (now (after-price .before .before .before .args .amount))) is,
+    let after = c .before .before in (
+      c .premium-code .ensures .0 ∙ ap premiumCode (told after),
+      c .premium-code .ensures .1 ∙ ap (λ (p : Premium). amountAfter p (now (after .before .before .before .args .amount))) (told after),
     )
 
 pub tariff-price-spec : {M : Type 1} → statement M
-tariff-price-spec = tie.close (tie.spec price-requires enum-known-cents cast-result enum-known-number refusal-requires returns returns-2)
+tariff-price-spec = tie.close (tie.spec price-requires premium-code-requires returns)

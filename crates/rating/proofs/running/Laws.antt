@@ -1,25 +1,25 @@
 -- What a step and the loops over the lines know.
 use Prim.Native.Nat.{ℕ, _+_, _*_, _≤_, _<_}
 use mathlib.Core.Bool.{Bool, true, false, not}
-use mathlib.Core.List.{List, [], _∷_}
+use mathlib.Core.List.{List, _∷_}
 use mathlib.Core.Path.{_≡_, refl, sym, ap, _∙_}
 use native.Mathlib.Omega.{arith}
 use borrow.Author.Tests.{not-true, not-false}
 use lib.IntN.{ℤ}
-use lib.ListN.{length, drop, length-drop}
-use Rattle.base.specs.Lists.{all, keep}
+use lib.ListN.{length, drop}
+use Rattle.base.specs.Lists.{all}
 use Rattle.base.proofs.Bools.{and-parts}
+use Rattle.base.proofs.Threes.{threes-ended, ranged-short, CountedBefore, counted-none, counted-more, counted-all}
 use Rattle.book.specs.Formula.{literalWithin}
 use Rattle.run.specs.Trail.{Entry, isTrue}
 use Rattle.layout.specs.Values.{valueIn}
 use Rattle.layout.specs.declared.values.Value.the-variants.{Open, True, False}
 use Rattle.layout.proofs.ValueLaws.{value-open, value-true, value-false}
-use Rattle.rating.specs.Pricing.{maxLines, linesOf, changeWithin, lineWithin, listWithin, applied, limited, stepped, pricedBy, openLines, oneIfOpen}
+use Rattle.rating.specs.Pricing.{maxLines, lineOf, linesOf, ofKind, areLines, changeWithin, lineWithin, listWithin, applied, limited, stepped, pricedBy, openLines, oneIfOpen}
 use Rattle.rating.specs.declared.Priced.{Priced}
 use Rattle.rating.specs.declared.Priced.the-variants.{At, Beyond}
 use Rattle.rating.specs.declared.RateLine.{RateLine}
-use Rattle.rating.proofs.PricingLaws.{Small, stepped-small, open-one, open-first, list-parts, line-parts}
-use Rattle.rating.proofs.lines.Laws.{lines-none, list-short}
+use Rattle.rating.proofs.PricingLaws.{Small, stepped-small, lineOpen, list-parts, line-parts}
 
 -- a line that is told to apply, or not
 module _ (applies : Bool) where
@@ -69,9 +69,6 @@ module _ (v : ℕ) (numbers : List ℤ) where
     pub read-parts : (literalWithin v (line .literal) ≡ true) × (changeWithin (line .change) ≡ true)
     read-parts = line-parts v line (ranged-parts .0)
 
-  ended : (at : ℕ) → length numbers ≤ at + 2 → linesOf (drop at numbers) ≡ []
-  ended at last = lines-none (drop at numbers) (omega (arith, length-drop at numbers))
-
   -- What the loop that applies them knows at a place: the state there, a running amount within its limit, comes to the same as the start at the first line.
   module _ (holds : ℕ → Bool) (start : Priced) where
     pub record AppliedBefore (state : Priced) (at : ℕ) : Type 0 where
@@ -97,36 +94,36 @@ module _ (v : ℕ) (numbers : List ℤ) where
           }
 
       pub applied-all : length numbers ≤ at + 2 → state ≡ pricedBy holds start (linesOf numbers)
-      unfolding pricedBy
-      applied-all last = sym (ap (pricedBy holds state) (ended at last)) ∙ a .rest
+      unfolding pricedBy linesOf
+      applied-all last = sym (ap (pricedBy holds state) (threes-ended lineOf numbers at last)) ∙ a .rest
 
   -- What the loop that counts the open ones knows at a place: `count` of the lines before it are open.
   module _ (trail : List Entry) where
     pub record OpenBefore (count at : ℕ) : Type 0 where
-      pub inside : at ≤ length numbers
+      pub counted : CountedBefore lineOf (lineOpen (isTrue trail)) numbers count at
       pub short : length numbers ≤ 3 * maxLines
       pub ranged : Ranged at
-      pub few : count ≤ at
-      pub rest : count + openLines (isTrue trail) (linesOf (drop at numbers)) ≡ openLines (isTrue trail) (linesOf numbers)
 
     pub open-none : listWithin v numbers ≡ true → OpenBefore 0 0
-    open-none e = record { inside = omega arith; short = list-short v numbers e; ranged = list-parts v numbers e .2; few = omega arith; rest = omega arith }
+    unfolding listWithin areLines linesOf
+    open-none e =
+        record {
+          counted = counted-none lineOf (lineOpen (isTrue trail)) numbers;
+          short = ranged-short ofKind lineOf maxLines (lineWithin v) numbers e;
+          ranged = list-parts v numbers e .2;
+        }
 
     module _ (count at : ℕ) (o : OpenBefore count at) where
       pub open-more : at + 2 < length numbers → (line : RateLine) → linesOf (drop at numbers) ≡ line ∷ linesOf (drop (at + 3) numbers)
           → (n : ℕ) → n ≡ oneIfOpen (isTrue trail) (line .literal) → OpenBefore (count + n) (at + 3)
+      unfolding linesOf
       open-more h line is n told =
-          let counts = ap (openLines (isTrue trail)) is ∙ open-first (isTrue trail) line (linesOf (drop (at + 3) numbers)) in
           record {
-            inside = omega arith;
+            counted = counted-more lineOf (lineOpen (isTrue trail)) numbers count at (o .counted) h line is n told;
             short = o .short;
             ranged = ranged-parts at (o .ranged) line is .1;
-            few = omega (arith, o .few, told, open-one (isTrue trail) (line .literal));
-            rest = omega (arith, told, counts, o .rest);
           }
 
       pub open-all : length numbers ≤ at + 2 → count ≡ openLines (isTrue trail) (linesOf numbers)
-      unfolding openLines keep
-      open-all last =
-          let nothing : openLines (isTrue trail) (linesOf (drop at numbers)) ≡ 0 = ap (openLines (isTrue trail)) (ended at last) in
-          omega (arith, nothing, o .rest)
+      unfolding openLines linesOf
+      open-all last = counted-all lineOf (lineOpen (isTrue trail)) numbers count at (o .counted) last

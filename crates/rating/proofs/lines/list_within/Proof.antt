@@ -8,13 +8,13 @@ use lib.IntN.{pos}
 use lib.ListN.{length, getD}
 use mir.Syntax.{w32}
 use mir.ValLaws.{toZ-ofZ}
-use Rattle.rating.specs.Pricing.{isKind}
-use Rattle.rating.proofs.lines.Laws.{WithinBefore, too-many, within-none, other-kind, line-outside, within-more, within-all}
+use Rattle.base.proofs.Threes.{too-many, RangedBefore, ranged-none, test-fails, one-outside, ranged-more, ranged-all}
+use Rattle.rating.specs.Pricing.{maxLines, lineOf, linesOf, isKind, ofKind, areLines, lineWithin, listWithin}
 use Rattle.rating.proofs.lines.list_within.Statement.{statement}
 use Rattle.rating.proofs.lines.list_within.Tie as tie
 
 abbrev Inv-loop : tie.InvT-loop
-Inv-loop variables numbers at₀ at = WithinBefore variables numbers at
+Inv-loop variables numbers at₀ at = RangedBefore ofKind lineOf maxLines (lineWithin variables) numbers at
 
 abbrev μ-loop : tie.MeasureT-loop
 μ-loop variables numbers at₀ at = length numbers - at
@@ -23,10 +23,11 @@ mul-if1 : tie.Need-mul-if1 Inv-loop μ-loop
 mul-if1 c = search needs
 
 returns : tie.Need-returns Inv-loop μ-loop
-returns c = too-many (c .before .args .variables) (c .before .args .numbers .now) (omega (arith, c .if1 .taken))
+unfolding listWithin areLines linesOf
+returns c = too-many ofKind lineOf maxLines (lineWithin (c .before .args .variables)) (c .before .args .numbers .now) (omega (arith, c .if1 .taken))
 
 loop-holds : tie.Need-loop-holds Inv-loop μ-loop
-loop-holds c = within-none (c .before .args .variables) (c .before .args .numbers .now)
+loop-holds c = ranged-none ofKind lineOf maxLines (lineWithin (c .before .args .variables)) (c .before .args .numbers .now)
 
 add-loop : tie.Need-add-loop Inv-loop μ-loop
 add-loop c =
@@ -52,10 +53,11 @@ kind-told : (c : tie.After-is-kind Inv-loop μ-loop) →
 kind-told c = c .is-kind .ensures ∙ ap isKind (toZ-ofZ w32 _ (record { sfits = c .before .is-kind-arg .given }))
 
 returns-2 : tie.Need-returns-2 Inv-loop μ-loop
+unfolding listWithin areLines linesOf
 returns-2 c =
     let here = c .before in
     let at-loop = here .before .before .before in
-    other-kind _ _ (at-loop .loop .at) (at-loop .loop .inv) (pos 0) (search needs) (sym (kind-told here) ∙ not-true _ (c .if2 .taken))
+    test-fails ofKind lineOf maxLines (lineWithin _) _ (at-loop .loop .at) (at-loop .loop .inv) (pos 0) (search needs) (sym (kind-told here) ∙ not-true _ (c .if2 .taken))
 
 line-at-requires : tie.Need-line-at-requires Inv-loop μ-loop
 line-at-requires c κs = search needs
@@ -64,10 +66,11 @@ line-within-requires : tie.Need-line-within-requires Inv-loop μ-loop
 line-within-requires c κs = search needs
 
 returns-3 : tie.Need-returns-3 Inv-loop μ-loop
+unfolding listWithin areLines linesOf
 returns-3 c =
     let read = c .before .before in
     let at-loop = read .before .before .before .before .before in
-    line-outside _ _ (at-loop .loop .at) (at-loop .loop .inv) (read .line-at .result) (read .line-at .ensures) (sym (not-true _ (c .if3 .taken)) ∙ c .before .line-within .ensures)
+    one-outside ofKind lineOf maxLines (lineWithin _) _ (at-loop .loop .at) (at-loop .loop .inv) (read .line-at .result) (read .line-at .ensures) (sym (not-true _ (c .if3 .taken)) ∙ c .before .line-within .ensures)
 
 add-at : tie.Need-add-at Inv-loop μ-loop
 add-at c = search needs
@@ -76,16 +79,18 @@ loop-less : tie.Need-loop-less Inv-loop μ-loop
 loop-less c = search needs
 
 loop-again : tie.Need-loop-again Inv-loop μ-loop
+unfolding linesOf
 loop-again c =
     let read = c .before .before in
     let at-loop = read .before .before .before .before .before in
-    within-more _ _ (at-loop .loop .at) (at-loop .loop .inv) (read .line-at .result) (read .line-at .ensures) (pos 0) (search needs)
+    ranged-more ofKind lineOf maxLines (lineWithin _) _ (at-loop .loop .at) (at-loop .loop .inv) (read .line-at .result) (read .line-at .ensures) (pos 0) (search needs)
     (sym (kind-told (read .before .before)) ∙ not-false _ (read .before .if2 .left)) (sym (not-false _ (c .if3 .left)) ∙ c .before .line-within .ensures)
 
 returns-4 : tie.Need-returns-4 Inv-loop μ-loop
+unfolding listWithin areLines linesOf
 returns-4 c =
     let at-loop = c .before in
-    within-all _ _ (at-loop .loop .at) (at-loop .loop .inv) (search needs) (search needs)
+    ranged-all ofKind lineOf maxLines (lineWithin _) _ (at-loop .loop .at) (at-loop .loop .inv) (search needs) (search needs)
 
 pub list-within-spec : {M : Type 1} → statement M
 list-within-spec =

@@ -3,10 +3,11 @@ use Prim.Native.Nat.{_-_}
 use native.Mathlib.Omega.{arith}
 use borrow.Author.Needs.{needs}
 use lib.ListN.{length}
+use Rattle.base.proofs.Counts.{one-most}
 use Rattle.book.specs.Numbers.{variablesOf, formulaOf}
 use Rattle.run.specs.Trail.{isTrue}
 use Rattle.layout.specs.Layout.{held}
-use Rattle.rating.proofs.PricingLaws.{open-one}
+use Rattle.rating.proofs.PricingLaws.{lineOpen}
 use Rattle.rating.proofs.running.Laws.{OpenBefore, open-none, read-parts, open-more, open-all}
 use Rattle.rating.proofs.running.open_lines.Statement.{statement}
 use Rattle.rating.proofs.running.open_lines.Tie as tie
@@ -24,7 +25,7 @@ loop-holds c =
 
 add-loop : tie.Need-add-loop Inv-loop μ-loop
 add-loop c =
-    let inside = c .loop .inv .inside in
+    let inside = c .loop .inv .counted .inside in
     search needs
 
 line-at-requires : tie.Need-line-at-requires Inv-loop μ-loop
@@ -41,8 +42,8 @@ add-count c =
     let at-loop = c .before .before .before in
     let entry = at-loop .before .before .before in
     let inv = at-loop .loop .inv in
-    let one = open-one (isTrue (held (formulaOf (entry .args .book .now)) (entry .args .session .now) .trail)) (c .before .line-at .result .literal) in
-    omega (arith, inv .few, inv .inside, inv .short, c .one-if-open .ensures, one)
+    let one = one-most (lineOpen (isTrue (held (formulaOf (entry .args .book .now)) (entry .args .session .now) .trail))) (c .before .line-at .result) in
+    omega (arith, inv .counted .few, inv .counted .inside, inv .short, c .one-if-open .ensures, one)
 
 add-at : tie.Need-add-at Inv-loop μ-loop
 add-at c = search needs

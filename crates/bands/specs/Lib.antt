@@ -1,0 +1,3 @@
+-- The definitions of `bands`.
+pub mod Bands
+pub mod Statement
