@@ -1,2 +1,4 @@
 -- The laws and theorems of `bands`.
 pub mod TableLaws
+pub mod Checker
+pub mod Factors

@@ -1,7 +1,7 @@
 -- Laws of the definitions that the functions' proofs cite: the ranges, the ages of a band, the loops over bands and over ages.
 use Prim.Native.Nat.{ℕ, suc, _+_, _≤_, _<_}
 use mathlib.Core.Bool.{Bool, true, false, cond, _&&_, and-false}
-use mathlib.Core.List.{List, [], _∷_}
+use mathlib.Core.List.{List, _∷_}
 use mathlib.Core.Logic.{_⊎_, inl, inr}
 use mathlib.Core.Path.{_≡_, refl, sym, ap, _∙_}
 use native.Mathlib.Omega.{arith}
@@ -9,15 +9,15 @@ use borrow.Author.Tests.{eq-eqb, ne-eqb, leb-true, lt-leb, le-leb}
 use lib.Dec.{leb}
 use lib.ListN.{length, drop}
 use mir.Val.{boolByte}
-use Rattle.base.specs.Lists.{all, keep}
+use Rattle.base.specs.Lists.{keep}
 use Rattle.base.proofs.Bools.{below, and-parts}
 use Rattle.base.proofs.Counts.{First, kept-none, kept-first}
-use Rattle.base.proofs.Threes.{threes-ended, ranged-parts}
-use Rattle.bands.specs.Bands.{maxBands, maxAge, maxFactor, bandOf, anyBand, bandsOf, areBands, bandWithin, tableWithin, liesIn, bandsAt, ages, atFault, faultNumber, firstFault, checkedTable, firstFactor, factorAt, factorBy, factorAnswer}
+use Rattle.base.proofs.Threes.{threes-ended}
+use Rattle.bands.specs.Bands.{maxAge, maxFactor, bandOf, bandsOf, bandWithin, tableWithin, liesIn, bandsAt, atFault, faultNumber, checkedTable, firstFactor, factorAt, factorBy, factorAnswer}
 use Rattle.bands.specs.declared.Band.{Band}
 use Rattle.bands.specs.declared.Checked.{Checked}
 use Rattle.bands.specs.declared.Checked.the-variants.{Good, Malformed, Fault}
-use Rattle.bands.specs.declared.Factor.the-variants.{Of, Refused}
+use Rattle.bands.specs.declared.Factor.the-variants.{Refused}
 
 -- the ranges of a band
 module _ (band : Band) where
@@ -33,7 +33,7 @@ module _ (band : Band) where
   unfolding bandWithin
   ages-right h k = rw (le-leb (band .first) (band .last) h, le-leb (band .last) maxAge k)
 
-  factor-within : bandWithin band ≡ true → band .factor ≤ maxFactor
+  pub factor-within : bandWithin band ≡ true → band .factor ≤ maxFactor
   unfolding bandWithin
   factor-within e = leb-true (band .factor) maxFactor (and-parts (leb (band .first) (band .last) && leb (band .last) maxAge) (leb (band .factor) maxFactor) e .1)
 
@@ -154,44 +154,3 @@ module _ (numbers : List ℕ) (age : ℕ) where
   pub factor-by : age ≤ maxAge → (report : Checked) → report ≡ checkedTable numbers → factorBy age (bandsOf numbers) report ≡ factorAnswer numbers age
   unfolding factorAnswer
   factor-by h report is = rw (le-leb age maxAge h, is)
-
-  -- a factor that is told is within its range
-  first-most : (bands : List Band) → all bandWithin bands ≡ true → factorAt age bands ≤ maxFactor
-  unfolding factorAt bandsAt keep all
-  first-most [] e = omega arith
-  first-most (band ∷ bands) e =
-      let parts = and-parts (bandWithin band) (all bandWithin bands) e in
-      go (liesIn age band) (factor-within band (parts .0)) (first-most bands (parts .1))
-    where
-      go : (t : Bool) → band .factor ≤ maxFactor → firstFactor (keep (liesIn age) bands) ≤ maxFactor
-          → firstFactor (cond t (band ∷ keep (liesIn age) bands) (keep (liesIn age) bands)) ≤ maxFactor
-      go true here rest = here
-      go false here rest = rest
-
-  good-within : checkedTable numbers ≡ Good → tableWithin numbers ≡ true
-  unfolding checkedTable
-  good-within e = go (tableWithin numbers) refl e
-    where
-      go : (t : Bool) → tableWithin numbers ≡ t → cond t (firstFault (bandsOf numbers) (keep (atFault (bandsOf numbers)) ages)) Malformed ≡ Good → tableWithin numbers ≡ true
-      go true p q = p
-      go false p q = let z : _≡_ {A = ℕ} 0 1 = cc in absurd (omega arith)
-
-  -- what a factor tells
-  pub factor-told : (factor : ℕ) → Of factor ≡ factorAnswer numbers age → (age ≤ maxAge) × (checkedTable numbers ≡ Good) × (factor ≡ factorAt age (bandsOf numbers))
-  unfolding factorAnswer
-  factor-told factor e = go (leb age maxAge) (checkedTable numbers) refl refl e
-    where
-      go : (t : Bool) (report : Checked) → leb age maxAge ≡ t → checkedTable numbers ≡ report
-          → Of factor ≡ cond t (factorBy age (bandsOf numbers) report) (Refused 19)
-          → (age ≤ maxAge) × (checkedTable numbers ≡ Good) × (factor ≡ factorAt age (bandsOf numbers))
-      go true Good p q r = (leb-true age maxAge p, q, cc)
-      go true Malformed p q r = let z : _≡_ {A = ℕ} 0 1 = cc in absurd (omega arith)
-      go true (Fault number lowest) p q r = let z : _≡_ {A = ℕ} 0 1 = cc in absurd (omega arith)
-      go false report p q r = let z : _≡_ {A = ℕ} 0 1 = cc in absurd (omega arith)
-
-  pub factor-most : (factor : ℕ) → Of factor ≡ factorAnswer numbers age → factor ≤ maxFactor
-  unfolding tableWithin areBands bandsOf
-  factor-most factor e =
-      let told = factor-told factor e in
-      let within = ranged-parts anyBand bandOf maxBands bandWithin numbers (good-within (told .1)) in
-      rw (told .2) (first-most (bandsOf numbers) (within .2))

@@ -1,12 +1,26 @@
--- How many elements of a list a test holds of, in any order; and the first number below n that it holds of.
+-- The elements of a list that a test holds of: how many they are, in any order; the only one; and the first number below n.
 use Prim.Native.Nat.{ℕ, zero, suc, _+_, _≤_, _<_}
 use mathlib.Core.Bool.{Bool, true, false, cond}
 use mathlib.Core.List.{List, [], _∷_, _++_}
 use mathlib.Core.Logic.{_⊎_, inl, inr}
-use mathlib.Core.Path.{_≡_, refl, _∙_}
+use mathlib.Core.Path.{_≡_, refl, sym, ap, _∙_}
 use native.Mathlib.Omega.{arith}
 use lib.ListN.{length}
-use Rattle.base.specs.Lists.{keep, table, Reordered, unmoved, swapped, behind, further}
+use Rattle.base.specs.Lists.{keep, table, Reordered, unmoved, swapped, behind, further, Only}
+use Rattle.base.proofs.Lists.{length-reordered}
+
+no-elements : {A : Type 0} (xs : List A) → length xs ≡ 0 → xs ≡ []
+no-elements [] e = refl
+no-elements (x ∷ xs) e = absurd (omega (arith, e))
+
+alone : {A : Type 0} {xs ys : List A} → Reordered xs ys → length xs ≡ 1 → xs ≡ ys
+alone unmoved e = refl
+alone swapped e = absurd (omega (arith, e))
+alone (behind {x = x} {xs = xs} {ys = ys} r) e =
+    let here = no-elements xs (omega (arith, e)) in
+    let there = no-elements ys (omega (arith, e, length-reordered r)) in
+    rw (here, there)
+alone (further r s) e = alone r e ∙ alone s (sym (length-reordered r) ∙ e)
 
 module _ {A : Type 0} (p : A → Bool) where
   abbrev pub count : List A → ℕ
@@ -46,6 +60,54 @@ module _ {A : Type 0} (p : A → Bool) where
   count-reordered (swapped {x = x} {y = y} {xs = xs}) = omega (arith, count-first x (y ∷ xs), count-first y xs, count-first y (x ∷ xs), count-first x xs)
   count-reordered (behind {x = x} {xs = xs} {ys = ys} r) = omega (arith, count-first x xs, count-first x ys, count-reordered r)
   count-reordered (further r s) = count-reordered r ∙ count-reordered s
+
+  keep-reordered : {xs ys : List A} → Reordered xs ys → Reordered (keep p xs) (keep p ys)
+  unfolding keep
+  keep-reordered unmoved = unmoved
+  keep-reordered (swapped {x = x} {y = y} {xs = xs}) = go (p x) (p y) (keep p xs)
+    where
+      go : (a b : Bool) (kept : List A) → Reordered (cond a (x ∷ cond b (y ∷ kept) kept) (cond b (y ∷ kept) kept)) (cond b (y ∷ cond a (x ∷ kept) kept) (cond a (x ∷ kept) kept))
+      go true true kept = swapped
+      go true false kept = unmoved
+      go false true kept = unmoved
+      go false false kept = unmoved
+  keep-reordered (behind {x = x} {xs = xs} {ys = ys} r) = go (p x) (keep-reordered r)
+    where
+      go : (a : Bool) → Reordered (keep p xs) (keep p ys) → Reordered (cond a (x ∷ keep p xs) (keep p xs)) (cond a (x ∷ keep p ys) (keep p ys))
+      go true kept = behind kept
+      go false kept = kept
+  keep-reordered (further r s) = further (keep-reordered r) (keep-reordered s)
+
+  -- one element has one order
+  pub kept-alone : {xs ys : List A} → Reordered xs ys → count xs ≡ 1 → keep p xs ≡ keep p ys
+  kept-alone r e = alone (keep-reordered r) e
+
+  -- where it holds of one alone, that is kept
+  pub only-one : (xs : List A) → count xs ≡ 1 → (only : Only p xs) × (keep p xs ≡ only .one ∷ [])
+  unfolding keep
+  only-one [] e = absurd (omega (arith, e))
+  only-one (x ∷ xs) e = go (p x) refl e (only-one xs)
+    where
+      go : (t : Bool) → p x ≡ t → length (cond t (x ∷ keep p xs) (keep p xs)) ≡ 1
+          → (count xs ≡ 1 → (only : Only p xs) × (keep p xs ≡ only .one ∷ []))
+          → (only : Only p (x ∷ xs)) × (cond (p x) (x ∷ keep p xs) (keep p xs) ≡ only .one ∷ [])
+      go true h q rest =
+          let none = no-elements (keep p xs) (omega (arith, q)) in
+          (record { before = []; one = x; after = xs; list = refl; holds = h; none-before = refl; none-after = none }, rw (h, none))
+      go false h q rest =
+          let later = rest q in
+          let o = later .0 in (
+            record {
+              before = x ∷ o .before;
+              one = o .one;
+              after = o .after;
+              list = ap (λ (l : List A). x ∷ l) (o .list);
+              holds = o .holds;
+              none-before = rw h (o .none-before);
+              none-after = o .none-after;
+            },
+            rw h (later .1),
+          )
 
 -- A number below n is the first that the test holds of.
 pub record First (n : ℕ) (test : ℕ → Bool) (i : ℕ) : Type 0 where

@@ -23,7 +23,7 @@ three xs d at h =
 
 -- What the threes make:
 module _ {A B : Type 0} (make : A → A → A → B) where
-  pub threes-few : (xs : List A) → 3 * length (byThree make xs) ≤ length xs
+  threes-few : (xs : List A) → 3 * length (byThree make xs) ≤ length xs
   unfolding byThree
   threes-few [] = omega arith
   threes-few (x ∷ []) = omega arith

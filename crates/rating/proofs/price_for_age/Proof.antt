@@ -7,7 +7,7 @@ use mir.Val.{toZ, ofZ}
 use mir.ValLaws.{toZ-ofZ}
 use Rattle.bands.specs.Bands.{factorAnswer}
 use Rattle.bands.specs.declared.Factor.the-variants.{Of}
-use Rattle.bands.proofs.TableLaws.{factor-most}
+use Rattle.bands.proofs.Factors.{factor-most}
 use Rattle.book.specs.Numbers.{formulaOf}
 use Rattle.layout.specs.Layout.{held}
 use Rattle.session.specs.Outcomes.{accepted}
