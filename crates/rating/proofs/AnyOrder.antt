@@ -16,7 +16,7 @@ use Rattle.run.specs.Trail.{isTrue}
 use Rattle.run.specs.Run.{inConflict}
 use Rattle.layout.specs.Layout.{held}
 use Rattle.validation.specs.Validation.{passes}
-use Rattle.rating.specs.Pricing.{maxAmount, maxRunning, linesOf, areLines, changeWithin, lineWithin, listWithin, baseWithin, applied, limited, stepped, pricedBy, openLines, ratesWithin, premiumAnswer}
+use Rattle.rating.specs.Pricing.{maxAmount, maxRunning, linesOf, areLines, changeWithin, lineWithin, listWithin, baseWithin, applied, limited, stepped, pricedBy, openLines, offered, ratesWithin, premiumAnswer}
 use Rattle.rating.specs.Statement.{isAmount, amountsOnly}
 use Rattle.rating.specs.declared.Change.{Change}
 use Rattle.rating.specs.declared.Change.the-variants.{Amount, Thousandths}
@@ -115,8 +115,8 @@ module _ (book session : List ℕ) (base : ℤ) (numbers others : List ℤ) (who
       ∙ sym (said-is book session base others)
     where
       go : (w p c i : Bool) → ratesWithin book base numbers ≡ i
-          → said w p c (ratesWithin book base numbers) (state book session base numbers) (open-count book session numbers)
-          ≡ said w p c (ratesWithin book base others) (state book session base others) (open-count book session others)
+          → said w p c (ratesWithin book base numbers) (offered (open-count book session numbers) (state book session base numbers))
+          ≡ said w p c (ratesWithin book base others) (offered (open-count book session others) (state book session base others))
       go false p c i e = refl
       go true false c i e = refl
       go true true true i e = refl

@@ -16,7 +16,7 @@ use Rattle.run.specs.Trail.{Entry, isTrue}
 use Rattle.run.specs.Run.{inConflict}
 use Rattle.layout.specs.Layout.{held}
 use Rattle.validation.specs.Validation.{passes}
-use Rattle.rating.specs.Pricing.{maxLines, literalOf, lineOf, linesOf, isKind, ofKind, areLines, lineWithin, listWithin, pricedBy, openLines, oneIfOpen, ratesWithin, premiumAnswer}
+use Rattle.rating.specs.Pricing.{maxLines, literalOf, lineOf, linesOf, isKind, ofKind, areLines, lineWithin, listWithin, pricedBy, openLines, oneIfOpen, offered, ratesWithin, premiumAnswer}
 use Rattle.rating.specs.Statement.{withOpen}
 use Rattle.rating.specs.declared.Priced.{Priced}
 use Rattle.rating.specs.declared.Priced.the-variants.{At, Beyond}
@@ -71,7 +71,8 @@ module _ (book session : List ℕ) (base : ℤ) (front back : List ℤ) (literal
         passed-by s = ap (λ (now : Priced). pricedBy (isTrue trail) now (linesOf back)) (unmet (isTrue trail) s line unmet-literal)
 
         go : (w p c r : Bool) (s : Priced)
-            → said w p c r s (oneIfOpen (isTrue trail) (literalOf literal) + open-count book session (front ++ back)) ≡ withOpen (oneIfOpen (isTrue trail) (literalOf literal)) (said w p c r s (open-count book session (front ++ back)))
+            → said w p c r (offered (oneIfOpen (isTrue trail) (literalOf literal) + open-count book session (front ++ back)) s)
+            ≡ withOpen (oneIfOpen (isTrue trail) (literalOf literal)) (said w p c r (offered (open-count book session (front ++ back)) s))
         go false p c r s = refl
         go true false c r s = refl
         go true true true r s = refl
