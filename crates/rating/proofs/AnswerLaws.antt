@@ -44,6 +44,11 @@ base-most (negsuc n) e = absurd (never e refl)
 pub base-small : (x : ℤ) → baseWithin x ≡ true → natAbs x ≤ maxRunning
 base-small x e = omega (arith, base-most x e)
 
+-- what the lines come to where there is an amount
+pub offered-of : (count : ℕ) (state : Priced) (amount : ℤ) (n : ℕ) → offered count state ≡ Of amount n → (state ≡ At amount) × (count ≡ n)
+offered-of count (At x) amount n e = (cc, cc)
+offered-of count Beyond amount n e = let z : _≡_ {A = ℕ} 0 1 = cc in absurd (omega arith)
+
 module _ (book session : List ℕ) where
   abbrev run : Run
   run = held (formulaOf book) session
@@ -145,14 +150,10 @@ module _ (book session : List ℕ) where
     unfolding premiumAnswer
     answered amount n e = go (eqb (priceRefusal book session base numbers) 0) refl e
       where
-        offers : (count : ℕ) (state : Priced) → offered count state ≡ Of amount n → (state ≡ At amount) × (count ≡ n)
-        offers count (At x) e = (cc, cc)
-        offers count Beyond e = let z : _≡_ {A = ℕ} 0 1 = cc in absurd (omega arith)
-
         go : (t : Bool) → eqb (priceRefusal book session base numbers) 0 ≡ t
             → premiumOf base (linesOf numbers) (cond t (accepted run) (refused (priceRefusal book session base numbers))) ≡ Of amount n
             → (0 ≡ priceRefusal book session base numbers)
             × (pricedBy (isTrue (run .trail)) (At base) (linesOf numbers) ≡ At amount)
             × (openLines (isTrue (run .trail)) (linesOf numbers) ≡ n)
-        go true p q = let parts = offers _ _ q in (sym (eqb-true _ 0 p), parts .0, parts .1)
+        go true p q = let parts = offered-of _ _ amount n q in (sym (eqb-true _ 0 p), parts .0, parts .1)
         go false p q = let z : _≡_ {A = ℕ} 0 1 = cc in absurd (omega arith)

@@ -5,5 +5,6 @@ pub mod AgeLaws
 pub mod Rounding
 pub mod Refusals
 pub mod Premiums
+pub mod AgePremiums
 pub mod UnmetLine
 pub mod AnyOrder

@@ -5,6 +5,8 @@ use mathlib.Core.List.{List, [], _∷_}
 use mathlib.Core.Logic.{_↔_, _⊎_, inl, inr}
 use mathlib.Core.Path.{_≡_, refl, sym, ap, ap₂, _∙_}
 use native.Mathlib.Omega.{arith}
+use borrow.Author.Tests.{eqb-true}
+use lib.Dec.{eqb}
 use lib.IntN.{ℤ, natAbs}
 use lib.ListN.{length, take, drop, take-append-drop}
 use lib.Seq.{take-all}
@@ -19,17 +21,17 @@ use Rattle.run.specs.Trail.{opposite, isTrue, decisions}
 use Rattle.run.specs.Run.{Run, inConflict}
 use Rattle.run.specs.Closure.{Closure}
 use Rattle.run.specs.Valid.{Valid}
-use Rattle.run.proofs.Conflicts.{out-quiet}
+use Rattle.run.proofs.Conflicts.{quiet-out, out-quiet}
 use Rattle.run.proofs.Opposites.{same-variable, opposite-opposite, opposite-positive}
 use Rattle.run.proofs.Theorems.{same-decisions-agree, conflicting-decisions}
 use Rattle.layout.specs.Layout.{held}
 use Rattle.validation.specs.Validation.{readRefusal}
-use Rattle.session.specs.Outcomes.{outcome, lookupAnswer}
+use Rattle.session.specs.Outcomes.{accepted, refused, lookupAnswer}
 use Rattle.session.specs.declared.Assigned.the-variants as assigned
 use Rattle.session.proofs.PassedLaws.{well, facts, own-refusal}
 use Rattle.session.proofs.LookupLaws.{shows-open}
 use Rattle.session.proofs.Statements.{statement-2}
-use Rattle.rating.specs.Pricing.{maxRunning, linesOf, lineWithin, pricedBy, openLines, oneIfOpen, offered, premiumOf, ratesWithin, runRefusal, priceRefusal, premiumAnswer}
+use Rattle.rating.specs.Pricing.{maxRunning, linesOf, lineWithin, listWithin, pricedBy, openLines, oneIfOpen, offered, premiumOf, ratesWithin, runRefusal, priceRefusal, premiumAnswer}
 use Rattle.rating.specs.Statement.{after, Bounded}
 use Rattle.rating.specs.declared.Priced.{Priced}
 use Rattle.rating.specs.declared.Priced.the-variants.{At, Beyond}
@@ -88,25 +90,24 @@ module _ (book session : List ℕ) (base : ℤ) (numbers : List ℤ) where
   abbrev lines : List RateLine
   lines = linesOf numbers
 
-  -- An amount that is answered is within its limit at every line.
-  pub amount-bounded : (amount : ℤ) (n : ℕ) → premiumAnswer book session base numbers ≡ Of amount n → Bounded book session base numbers amount n
+  -- from a start within the limit of the running amount on
+  pub bounded-from : natAbs base ≤ maxRunning → listWithin (variablesOf book) numbers ≡ true → (amount : ℤ) (n : ℕ)
+      → pricedBy (isTrue (run .trail)) (At base) lines ≡ At amount → openLines (isTrue (run .trail)) lines ≡ n → Bounded book session base numbers amount n
   unfolding openLines
-  amount-bounded amount n e =
-      let told = answered book session base numbers amount n e in
-      let known = accepted-price book session base numbers (told .0) in
-      let small = at-small base (base-small base (known .base-right)) in
+  bounded-from most list-right amount n priced counted =
+      let small = at-small base most in
       let few-of-them : openLines (isTrue (run .trail)) lines ≤ length lines = count-few (lineOpen (isTrue (run .trail))) lines in
       let whole : after book session base numbers (length lines) ≡ At amount
-      = ap (pricedBy (isTrue (run .trail)) (At base)) (take-all (length lines) lines (omega arith)) ∙ told .1 in
+      = ap (pricedBy (isTrue (run .trail)) (At base)) (take-all (length lines) lines (omega arith)) ∙ priced in
       record {
         every-line = λ j.
             let parted : pricedBy (isTrue (run .trail)) (after book session base numbers j) (drop j lines) ≡ At amount
-            = sym (priced-append (isTrue (run .trail)) (take j lines) (drop j lines) (At base)) ∙ ap (pricedBy (isTrue (run .trail)) (At base)) (take-append-drop j lines) ∙ told .1 in
+            = sym (priced-append (isTrue (run .trail)) (take j lines) (drop j lines) (At base)) ∙ ap (pricedBy (isTrue (run .trail)) (At base)) (take-append-drop j lines) ∙ priced in
             go (drop j lines) (after book session base numbers j) refl parted (priced-small (isTrue (run .trail)) (take j lines) (At base) small);
         last = whole;
-        amount-within = priced-small (isTrue (run .trail)) lines (At base) small amount (told .1);
-        few-open = omega (arith, told .2, few-of-them);
-        few-lines = list-parts (variablesOf book) numbers (known .list-right) .1;
+        amount-within = priced-small (isTrue (run .trail)) lines (At base) small amount priced;
+        few-open = omega (arith, counted, few-of-them);
+        few-lines = list-parts (variablesOf book) numbers list-right .1;
       }
     where
       go : (rest : List RateLine) (state : Priced) {now : Priced} → now ≡ state → pricedBy (isTrue (run .trail)) now rest ≡ At amount → Small now
@@ -116,18 +117,32 @@ module _ (book session : List ℕ) (base : ℤ) (numbers : List ℤ) where
           let w = sym (priced-beyond (isTrue (run .trail)) rest) ∙ ap (λ (s : Priced). pricedBy (isTrue (run .trail)) s rest) (sym is) ∙ ends in
           let z : _≡_ {A = ℕ} 0 1 = cc in absurd (omega arith)
 
+  -- An amount that is answered is within its limit at every line.
+  pub amount-bounded : (amount : ℤ) (n : ℕ) → premiumAnswer book session base numbers ≡ Of amount n → Bounded book session base numbers amount n
+  amount-bounded amount n e =
+      let told = answered book session base numbers amount n e in
+      let known = accepted-price book session base numbers (told .0) in
+      bounded-from (base-small base (known .base-right)) (known .list-right) amount n (told .1) (told .2)
+
   -- Out of conflict a line applies exactly if its literal is in the closure of the decisions in force: whatever test says of each literal whether it is in the
-  -- closure, the answer follows from it, the base and the list.
+  -- closure, what the lines come to follows from it, the start and the list;
+  pub offered-by-closure : readRefusal book session ≡ 0 → run .conflict ≡ 0
+      → (holds : ℕ → Bool) → ((l : ℕ) → (holds l ≡ true) ↔ Closure (formulaOf book) (decisions (run .trail)) l)
+      → premiumOf base lines (accepted run) ≡ offered (openLines holds lines) (pricedBy holds (At base) lines)
+  offered-by-closure passed out holds by-closure =
+      let closed = statement-2 book session passed .closure out in
+      let agree : (l : ℕ) → isTrue (run .trail) l ≡ holds l
+      = λ l. same-test (isTrue (run .trail) l) (holds l) (λ t. by-closure l .1 (closed l .0 t)) (λ t. closed l .1 (by-closure l .0 t)) in
+      ap₂ offered (open-alike (isTrue (run .trail)) holds agree lines) (priced-alike (isTrue (run .trail)) holds agree lines (At base))
+
+  -- and so does the answer.
   pub price-by-closure : 0 ≡ priceRefusal book session base numbers
       → (holds : ℕ → Bool) → ((l : ℕ) → (holds l ≡ true) ↔ Closure (formulaOf book) (decisions (run .trail)) l)
       → premiumAnswer book session base numbers ≡ offered (openLines holds lines) (pricedBy holds (At base) lines)
   unfolding premiumAnswer
   price-by-closure e holds by-closure =
       let known = accepted-price book session base numbers e in
-      let closed = statement-2 book session (known .passed) .closure (known .out) in
-      let agree : (l : ℕ) → isTrue (run .trail) l ≡ holds l
-      = λ l. same-test (isTrue (run .trail) l) (holds l) (λ t. by-closure l .1 (closed l .0 t)) (λ t. closed l .1 (by-closure l .0 t)) in
-      rw (← e) (ap₂ offered (open-alike (isTrue (run .trail)) holds agree lines) (priced-alike (isTrue (run .trail)) holds agree lines (At base)))
+      rw (← e) (offered-by-closure (known .passed) (known .out) holds by-closure)
 
   -- Where no variable is open, no line is.
   pub all-assigned : (amount : ℤ) (n : ℕ) → premiumAnswer book session base numbers ≡ Of amount n
@@ -142,48 +157,54 @@ module _ (book session : List ℕ) (base : ℤ) (numbers : List ℤ) where
       none-open (variableOf l) (omega (arith, parts .0)) (omega (arith, parts .1)) (open-by-lookup book session (known .passed) l within .0 is-open))
       lines (list-parts (variablesOf book) numbers (known .list-right) .2)
 
--- what a session that passes is answered, without 11 and 12
-own-answer : (book session : List ℕ) (base : ℤ) (numbers : List ℤ) → 0 ≡ readRefusal book session
-    → let run = held (formulaOf book) session in
-    premiumAnswer book session base numbers
-    ≡ premiumOf base (linesOf numbers) (outcome (runRefusal (ratesWithin book base numbers) run) run)
-unfolding premiumAnswer priceRefusal
-own-answer book session base numbers none =
-    ap (λ (n : ℕ). premiumOf base (linesOf numbers) (outcome n (held (formulaOf book) session)))
-    (own-refusal book session none (runRefusal (ratesWithin book base numbers)))
+-- what a session that passes is refused by, without 11 and 12
+own-price : (book session : List ℕ) (base : ℤ) (numbers : List ℤ) → 0 ≡ readRefusal book session
+    → priceRefusal book session base numbers ≡ runRefusal (ratesWithin book base numbers) (held (formulaOf book) session)
+unfolding priceRefusal
+own-price book session base numbers none = own-refusal book session none (runRefusal (ratesWithin book base numbers))
 
--- Two sessions on one book that pass and hold the same decisions, in whatever order, are priced alike, refused or not.
-pub same-decisions-same-price : (book a b : List ℕ) → readRefusal book a ≡ 0 → readRefusal book b ≡ 0
-    → ((l : ℕ) → member l (decisions (held (formulaOf book) a .trail)) ≡ member l (decisions (held (formulaOf book) b .trail)))
-    → (base : ℤ) (numbers : List ℤ) → premiumAnswer book a base numbers ≡ premiumAnswer book b base numbers
-same-decisions-same-price book a b e f same base numbers =
-    rw (own-answer book a base numbers (sym e), own-answer book b base numbers (sym f), alike) (go (inConflict runB) (ratesWithin book base numbers) refl)
-  where
-    runA : Run
-    runA = held (formulaOf book) a
+-- Two sessions on one book that pass and hold the same decisions, in whatever order:
+module _ (book a b : List ℕ) (e : readRefusal book a ≡ 0) (f : readRefusal book b ≡ 0)
+    (same : (l : ℕ) → member l (decisions (held (formulaOf book) a .trail)) ≡ member l (decisions (held (formulaOf book) b .trail))) where
+  abbrev runA : Run
+  runA = held (formulaOf book) a
 
-    runB : Run
-    runB = held (formulaOf book) b
+  abbrev runB : Run
+  runB = held (formulaOf book) b
 
-    s : sound (formulaOf book) ≡ true
-    s = well-formed-sound book (well book a (sym e))
+  s : sound (formulaOf book) ≡ true
+  s = well-formed-sound book (well book a (sym e))
 
-    validA : Valid (formulaOf book) runA
-    validA = facts book a (sym e) .0
+  validA : Valid (formulaOf book) runA
+  validA = facts book a (sym e) .0
 
-    validB : Valid (formulaOf book) runB
-    validB = facts book b (sym f) .0
+  validB : Valid (formulaOf book) runB
+  validB = facts book b (sym f) .0
 
-    alike : inConflict runA ≡ inConflict runB
-    alike =
-        same-test (inConflict runA) (inConflict runB) (conflicting-decisions (formulaOf book) runA runB s validA validB same)
-        (conflicting-decisions (formulaOf book) runB runA s validB validA (λ l. sym (same l)))
+  alike : inConflict runA ≡ inConflict runB
+  alike =
+      same-test (inConflict runA) (inConflict runB) (conflicting-decisions (formulaOf book) runA runB s validA validB same)
+      (conflicting-decisions (formulaOf book) runB runA s validB validA (λ l. sym (same l)))
 
-    go : (c r : Bool) → inConflict runB ≡ c
-        → premiumOf base (linesOf numbers) (outcome (cond c 14 (cond r 0 19)) runA) ≡ premiumOf base (linesOf numbers) (outcome (cond c 14 (cond r 0 19)) runB)
-    go true r q = refl
-    go false false q = refl
-    go false true q =
-        let agree = same-decisions-agree (formulaOf book) runA runB s validA validB same (out-quiet runA (alike ∙ q)) (out-quiet runB q) in
+  module _ (base : ℤ) (numbers : List ℤ) where
+    -- the lines come to the same in both, from any start on
+    pub same-offered : 0 ≡ priceRefusal book b base numbers → (start : ℤ) → premiumOf start (linesOf numbers) (accepted runA) ≡ premiumOf start (linesOf numbers) (accepted runB)
+    same-offered quiet start =
+        let out = accepted-price book b base numbers quiet .out in
+        let agree = same-decisions-agree (formulaOf book) runA runB s validA validB same (out-quiet runA (alike ∙ quiet-out runB out)) out in
         ap₂ offered (open-alike (isTrue (runA .trail)) (isTrue (runB .trail)) agree (linesOf numbers))
-        (priced-alike (isTrue (runA .trail)) (isTrue (runB .trail)) agree (linesOf numbers) (At base))
+        (priced-alike (isTrue (runA .trail)) (isTrue (runB .trail)) agree (linesOf numbers) (At start))
+
+    pub same-refusal : priceRefusal book a base numbers ≡ priceRefusal book b base numbers
+    same-refusal = own-price book a base numbers (sym e) ∙ rw alike (sym (own-price book b base numbers (sym f)))
+
+    -- they are priced alike, refused or not.
+    pub same-decisions-same-price : premiumAnswer book a base numbers ≡ premiumAnswer book b base numbers
+    unfolding premiumAnswer
+    same-decisions-same-price = rw same-refusal (go (eqb (priceRefusal book b base numbers) 0) refl)
+      where
+        go : (t : Bool) → eqb (priceRefusal book b base numbers) 0 ≡ t
+            → premiumOf base (linesOf numbers) (cond t (accepted runA) (refused (priceRefusal book b base numbers)))
+            ≡ premiumOf base (linesOf numbers) (cond t (accepted runB) (refused (priceRefusal book b base numbers)))
+        go true q = same-offered (sym (eqb-true _ 0 q)) base
+        go false q = refl

@@ -2,3 +2,4 @@
 pub mod Pricing
 pub mod Ages
 pub mod Statement
+pub mod AgeStatement

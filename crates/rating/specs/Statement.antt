@@ -54,6 +54,10 @@ isAmount (Thousandths part) = false
 abbrev pub amountsOnly : List RateLine → Bool
 amountsOnly lines = all (λ (line : RateLine). isAmount (line .change)) lines
 
+-- the book is of the right form and the session passes
+abbrev pub Passes : List ℕ → List ℕ → Type 0
+Passes book session = (wellFormed book ≡ true) × (passes (formulaOf book) session ≡ true)
+
 module _ (book session : List ℕ) (base : ℤ) (numbers : List ℤ) where
   abbrev run : Run
   run = held (formulaOf book) session
@@ -76,15 +80,11 @@ module _ (book session : List ℕ) (base : ℤ) (numbers : List ℤ) where
   abbrev answer : Premium
   answer = premiumAnswer book session base numbers
 
-  -- the book is of the right form and the session passes
-  abbrev Passes : Type 0
-  Passes = (wellFormed book ≡ true) × (passes (formulaOf book) session ≡ true)
-
   -- Each refusal number exactly where it is due.
   pub record RefusedWhere : Type 0 where
     pub book-fault : (answer ≡ Refused 11) ↔ (wellFormed book ≡ false)
     pub session-fault : (answer ≡ Refused 12) ↔ ((wellFormed book ≡ true) × (passes (formulaOf book) session ≡ false))
-    pub conflict : (answer ≡ Refused 14) ↔ (Passes × (inConflict run ≡ true))
-    pub range : (answer ≡ Refused 19) ↔ (Passes × (inConflict run ≡ false) × (ratesWithin book base numbers ≡ false))
-    pub limit : (answer ≡ Refused 20) ↔ (Passes × (inConflict run ≡ false) × (ratesWithin book base numbers ≡ true) × GoesBeyond (isTrue (run .trail)) base lines)
+    pub conflict : (answer ≡ Refused 14) ↔ (Passes book session × (inConflict run ≡ true))
+    pub range : (answer ≡ Refused 19) ↔ (Passes book session × (inConflict run ≡ false) × (ratesWithin book base numbers ≡ false))
+    pub limit : (answer ≡ Refused 20) ↔ (Passes book session × (inConflict run ≡ false) × (ratesWithin book base numbers ≡ true) × GoesBeyond (isTrue (run .trail)) base lines)
     pub no-other : (n : ℕ) → answer ≡ Refused n → (n ≡ 11) ⊎ (n ≡ 12) ⊎ (n ≡ 14) ⊎ (n ≡ 19) ⊎ (n ≡ 20)
