@@ -19,29 +19,29 @@ use Rattle.rating.specs.declared.Premium.the-variants.{Of, Refused}
 use Rattle.points.specs.Points.{listing, opposed}
 
 -- the listing's book, with the choice `-1` in force, and with `-1` and `-3`: then -1, 2, -3 and -4 are true
-abbrev book : List ℕ
+abbrev pub book : List ℕ
 book = numbersOf listing
 
-abbrev begun : List ℕ
+abbrev pub begun : List ℕ
 begun = encode listing (reference listing (decision 3 ∷ []))
 
-abbrev assigned : List ℕ
+abbrev pub assigned : List ℕ
 assigned = encode listing (reference listing (decision 3 ∷ decision 7 ∷ []))
 
 abbrev price : List ℕ → ℕ → List ℤ → Premium
 price session base numbers = premiumAnswer book session (pos base) numbers
 
 -- a number below zero, a line of each kind, and several alike
-abbrev minus : ℕ → ℤ
+abbrev pub minus : ℕ → ℤ
 minus n = negℤ (pos n)
 
-abbrev amount : ℕ → ℤ → List ℤ
+abbrev pub amount : ℕ → ℤ → List ℤ
 amount l cents = pos l ∷ pos 0 ∷ cents ∷ []
 
-abbrev part : ℕ → ℤ → List ℤ
+abbrev pub part : ℕ → ℤ → List ℤ
 part l thousandths = pos l ∷ pos 1 ∷ thousandths ∷ []
 
-unfoldable pub several : ℕ → List ℤ → List ℤ
+unfoldable pub several : {A : Type 0} → ℕ → List A → List A
 several zero line = []
 several (suc n) line = line ++ several n line
 

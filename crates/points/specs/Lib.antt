@@ -7,3 +7,4 @@ pub mod K14
 pub mod K6
 pub mod K11
 pub mod K1
+pub mod K9
