@@ -6,11 +6,7 @@ set -euo pipefail
 cd "$(dirname "$0")/.."
 . tests/support/common.sh
 . tests/support/c_example.sh
-motor=examples/motor
-tariff=$motor/tariff.cnf
-rates=$motor/rates
-script=$motor/script
-answers=$motor/output
+. tests/support/priced.sh
 
 # What it says of a failure counts as printed.
 run() {
@@ -19,39 +15,7 @@ run() {
 
 # due [FAULT]: what is due; with a fault, what a wrong price prints.
 due() {
-    awk -v fault="${1:-}" -f tests/motor_price/due.awk part=rates "$rates" part=tariff "$tariff" part=answers "$answers"
-}
-
-# agrees FILE: what is stored of the example is what is due.
-agrees() {
-    diff <(due) "$1"
-}
-
-# as_due WORDS: it prints what is due.
-as_due() {
-    diff <(due) <(run "target/tests/$name.sanitized") || wrong "another premium than due: $1"
-}
-
-# listed EDIT: from now on the rate list is a copy with this sed edit.
-listed() {
-    edited "$motor/rates" "$1"
-    rates=$folder/rates
-}
-
-# played EDIT: from now on the script is a copy with this sed edit, and the answers are those of `desk` to it, on the tariff in the example's folder.
-played() {
-    local desk=$PWD/$program
-    edited "$motor/script" "$1"
-    (cd "$folder" && "$desk" <script >answers)
-    script=$folder/script
-    answers=$folder/answers
-}
-
-# doubled COUNT: an edit with which the rate list is a base of 976,562,500 and so many lines that double it, which apply from the opening on.
-doubled() {
-    printf '4,$d; /^base/{s/30000/976562500/'
-    printf ';s/$/\\nliability cover: 13 thousandths 1000/%.0s' $(seq "$1")
-    printf '}'
+    amounts tests/motor_price/due.awk "${1:-}"
 }
 
 # repeated COUNT: an edit with which the rate list has so many lines.
@@ -64,12 +28,9 @@ repeated() {
 need_program
 example "$motor/price.c" "$motor/price.output" motor_price
 prints_stored_in_every_build
-agrees "$stored"
-echo "$name: the amounts and open lines by the rate list and the literals that desk settles"
 faults=('half to zero' 'half to even' 'rounds the total' 'applies open lines' 'counts false lines as open')
-for fault in "${faults[@]}"; do
-    if diff <(due "$fault") "$stored" >/dev/null; then wrong "a wrong price prints what is stored: $fault"; fi
-done
+other_prices "${faults[@]}"
+echo "$name: the amounts and open lines by the rate list and the literals that desk settles"
 outputs=('s/34,465/34,466/' 's/108,379/108,380/' '/choice 5,/s/8 lines/7 lines/' '/no premium/d' 's/98/99/' 's/2 choices/1 choice/' '/^  motorcycle/d'
     '/^  high region/s/applies/open/' '/^  legal/s/open/applies/' '/^  without a garage/s/-47/ 47/' 's/does not apply/applies/' 's/-6,000/-6000/' '$d')
 notices_in_stored "${outputs[@]}"
