@@ -42,6 +42,9 @@ static inline uint32_t tariff_level(uint64_t answer) { return tariff_number(answ
 /* Of an answer of tariff_chapters, whether it wrote the totals: 1 if so; 0 where the answer is false, and where it is a refusal. */
 static inline uint32_t tariff_filed(uint64_t answer) { return answer == 1; }
 
+/* Of an answer of tariff_check_bands, whether the table is good: 1 if so; 0 where an age is at fault, and where the table is false. */
+static inline uint32_t tariff_good(uint64_t answer) { return answer == 0; }
+
 /* The places of the figures, and how many there are. */
 #define TARIFF_CHOICES 0    /* choices in force */
 #define TARIFF_TAKE_BACKS 1 /* accepted take-backs */
@@ -78,8 +81,8 @@ static inline uint32_t tariff_filed(uint64_t answer) { return answer == 1; }
 #define TARIFF_MOST_FACTOR 5000
 
 /* A lent part is a pointer and how many it holds; no two lent parts of a call overlap, and nobody else writes them meanwhile. No pointer is
- * NULL, but for a part of length 0. A call writes only what its comment says, and where it refuses, nothing, but for the age of tariff_check_bands. What a session call is lent is examined first:
- * a book at fault is 11, a session at fault or too short 12. */
+ * NULL, but for a part of length 0. A call writes only what its comment says, and where it refuses, nothing, but for the age of tariff_check_bands.
+ * What a session call is lent is examined first: a book at fault is 11, a session at fault or too short 12. */
 
 /* Reads the text of a rule book into book numbers: a repeated literal stands once; a rule with a feature
  * both ways is always met, and has no literals there.
@@ -176,7 +179,8 @@ uint64_t tariff_price(const uint32_t *book, size_t book_length, const uint32_t *
  * Accepted: 0, it is good. Writes nothing.
  * Refuses: 25 where the lowest age at fault lies in no band, 26 where it lies in several. Writes that age to *age, and nothing else.
  * TARIFF_FALSE where a band's last age is over 120 or under its first, its factor is over 5,000, there are over 64 bands or `table` is no whole number of
- * them, whatever ages are at fault. Writes nothing. */
+ * them, whatever ages are at fault. Writes nothing.
+ * False is neither accepted nor refused: ask tariff_good whether the table is good. */
 uint64_t tariff_check_bands(const uint32_t *table, size_t table_length, uint32_t *age);
 
 /* The premium as tariff_price gives it, from another start on: before the first line the base becomes base x factor of the customer's age / 1000, rounded to

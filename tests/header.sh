@@ -11,10 +11,12 @@ steps=bench/src/steps.rs
 limits=crates/book/src/limits.rt
 chapters=crates/chapters/src/lib.rt
 rating=(crates/rating/src/*.rt)
+bands=crates/bands/src/lib.rt
 wrong=target/tests/header.wrong
 
 # Each of these prints a line `NAME PARAMETER.. -> RESULT` for each function of a file; a parameter is `part:bytes`, `part:numbers`,
-# `part:signed`, `part:mut-numbers`, `part:mut-wides`, `part:mut-u64`, `part:mut-i64`, `u32` or `i64`; what is none of these stays as it is written.
+# `part:signed`, `part:mut-numbers`, `part:mut-wides`, `part:mut-u32`, `part:mut-u64`, `part:mut-i64`, `u32` or `i64`; what is none of these stays as it is
+# written.
 
 # A text of Rattle or Rust without comments, in one line.
 code_of() {
@@ -27,7 +29,7 @@ exported() {
         sed -E 's/.* fn ([a-z_0-9]+) *\(([^)]*)\) *(-> *([a-z0-9]+))?.*/\1 \2 -> \4/' |
         sed -E 's/,? -> / -> /; s/([a-z]+): *&\[u8\]/\1:bytes/g; s/([a-z]+): *&\[u32\]/\1:numbers/g; s/([a-z]+): *&\[i32\]/\1:signed/g;
                 s/([a-z]+): *&mut \[u32\]/\1:mut-numbers/g; s/([a-z]+): *&mut \[u64\]/\1:mut-wides/g;
-                s/([a-z]+): *&mut ([ui]64)/\1:mut-\2/g; s/[a-z]+: *(u32|i64)/\1/g' | tidy
+                s/([a-z]+): *&mut (u32|[ui]64)/\1:mut-\2/g; s/[a-z]+: *(u32|i64)/\1/g' | tidy
 }
 
 # The declarations of a C header, as a compiler sees them; a part and its length are named alike, and a result is nothing but its type.
@@ -39,7 +41,7 @@ declared_in_c() {
         sed -E 's/const uint8_t \*([a-z]+), *size_t \1_length/\1:bytes/g; s/const uint32_t \*([a-z]+), *size_t \1_length/\1:numbers/g;
                 s/const int32_t \*([a-z]+), *size_t \1_length/\1:signed/g;
                 s/uint32_t \*([a-z]+), *size_t \1_length/\1:mut-numbers/g; s/uint64_t \*([a-z]+), *size_t \1_length/\1:mut-wides/g;
-                s/uint64_t \*([a-z]+)/\1:mut-u64/g; s/\bint64_t \*([a-z]+)/\1:mut-i64/g;
+                s/uint32_t \*([a-z]+)/\1:mut-u32/g; s/uint64_t \*([a-z]+)/\1:mut-u64/g; s/\bint64_t \*([a-z]+)/\1:mut-i64/g;
                 s/uint32_t [a-z]+/u32/g; s/\bint64_t [a-z]+/i64/g; s/-> uint64_t$/-> u64/' | tidy
 }
 
@@ -52,18 +54,21 @@ declared_in_rust() {
         sed -E 's/,? *-> / -> /; s/([a-z]+): \*const u8, n: usize/\1:bytes/g; s/([a-z]+): \*const u32, n: usize/\1:numbers/g;
                 s/([a-z]+): \*const i32, n: usize/\1:signed/g;
                 s/([a-z]+): \*mut u32, n: usize/\1:mut-numbers/g; s/([a-z]+): \*mut u64, n: usize/\1:mut-wides/g;
-                s/([a-z]+): \*mut ([ui]64)/\1:mut-\2/g; s/[a-z]+: (u32|i64)/\1/g' | tidy
+                s/([a-z]+): \*mut (u32|[ui]64)/\1:mut-\2/g; s/[a-z]+: (u32|i64)/\1/g' | tidy
 }
 
-# The limits, as the crates `book`, `chapters` and `rating` have them, and as a header has them.
+# The limits, as the crates `book`, `chapters`, `rating` and `bands` have them, and as a header has them.
 limits_of_the_crates() {
     local variables clauses literals
     variables=$(limit MAX_VARIABLES) clauses=$(limit MAX_CLAUSES) literals=$(limit MAX_LITERALS)
     echo "TARIFF_BOOK $((clauses + literals + 4))"
     echo "TARIFF_CHAPTERS $(limit CHAPTERS)"
     echo "TARIFF_FEATURES $variables"
+    echo "TARIFF_MOST_AGE $(limit MAX_AGE)"
     echo "TARIFF_MOST_AMOUNT $(limit MAX_AMOUNT)"
+    echo "TARIFF_MOST_BANDS $(limit MAX_BANDS)"
     echo "TARIFF_MOST_BASE $(limit MAX_BASE)"
+    echo "TARIFF_MOST_FACTOR $(limit MAX_FACTOR)"
     echo "TARIFF_MOST_LINES $(limit MAX_LINES)"
     echo "TARIFF_MOST_RUNNING $(limit MAX_RUNNING)"
     echo "TARIFF_MOST_THOUSANDTHS $(limit MAX_THOUSANDTHS)"
@@ -72,7 +77,7 @@ limits_of_the_crates() {
 }
 
 limit() {
-    sed -nE "s/^(pub )?const $1: (usize|u64) = ([0-9]+);/\\3/p" "$limits" "$chapters" "${rating[@]}"
+    sed -nE "s/^(pub )?const $1: (usize|u32|u64) = ([0-9]+);/\\3/p" "$limits" "$chapters" "${rating[@]}" "$bands"
 }
 
 # A macro under the name of a function is none of the limits, and stands out.
@@ -163,21 +168,44 @@ notices "$header" tariff_quote 's/uint64_t \*ceiling/uint32_t *ceiling/'
 notices "$header" tariff_quote 's/uint64_t \*ceiling/const &/'
 notices "$header" tariff_quote 's/uint64_t \*ceiling/&, size_t ceiling_length/'
 notices "$header" tariff_quote 's/(uint32_t \*out, size_t out_length), (uint64_t \*ceiling)/\2, \1/'
-notices "$header" tariff_price '/^uint64_t tariff_price/,/;$/d'
-notices "$header" tariff_price '/^uint64_t tariff_price/s/uint64_t/int64_t/'
-notices "$header" tariff_price 's/int64_t base/uint64_t base/'
-notices "$header" tariff_price 's/int64_t base/int32_t base/'
-notices "$header" tariff_price 's/int64_t base, //'
-notices "$header" tariff_price 's/const int32_t \*lines/int32_t *lines/'
-notices "$header" tariff_price 's/const int32_t \*lines/const uint32_t *lines/'
-notices "$header" tariff_price 's/const int32_t \*lines/const int64_t *lines/'
-notices "$header" tariff_price 's/, size_t lines_length//'
-notices "$header" tariff_price 's/int64_t \*amount/uint64_t *amount/'
-notices "$header" tariff_price 's/int64_t \*amount/int32_t *amount/'
-notices "$header" tariff_price 's/int64_t \*amount/const &/'
-notices "$header" tariff_price 's/int64_t \*amount/&, size_t amount_length/'
-notices "$header" tariff_price 's/(int64_t base), (const int32_t \*lines, size_t lines_length)/\2, \1/'
-notices "$header" tariff_price 's/(const int32_t \*lines, size_t lines_length), (int64_t \*amount)/\2, \1/'
+notices "$header" tariff_price '/^uint64_t tariff_price\(/,/;$/d'
+notices "$header" tariff_price '/^uint64_t tariff_price\(/s/uint64_t/int64_t/'
+notices "$header" tariff_price '/^uint64_t tariff_price\(/,/;$/s/int64_t base/uint64_t base/'
+notices "$header" tariff_price '/^uint64_t tariff_price\(/,/;$/s/int64_t base/int32_t base/'
+notices "$header" tariff_price '/^uint64_t tariff_price\(/,/;$/s/int64_t base, //'
+notices "$header" tariff_price '/^uint64_t tariff_price\(/,/;$/s/const int32_t \*lines/int32_t *lines/'
+notices "$header" tariff_price '/^uint64_t tariff_price\(/,/;$/s/const int32_t \*lines/const uint32_t *lines/'
+notices "$header" tariff_price '/^uint64_t tariff_price\(/,/;$/s/const int32_t \*lines/const int64_t *lines/'
+notices "$header" tariff_price '/^uint64_t tariff_price\(/,/;$/s/, size_t lines_length//'
+notices "$header" tariff_price '/^uint64_t tariff_price\(/,/;$/s/int64_t \*amount/uint64_t *amount/'
+notices "$header" tariff_price '/^uint64_t tariff_price\(/,/;$/s/int64_t \*amount/int32_t *amount/'
+notices "$header" tariff_price '/^uint64_t tariff_price\(/,/;$/s/int64_t \*amount/const &/'
+notices "$header" tariff_price '/^uint64_t tariff_price\(/,/;$/s/int64_t \*amount/&, size_t amount_length/'
+notices "$header" tariff_price '/^uint64_t tariff_price\(/,/;$/s/(int64_t base), (const int32_t \*lines, size_t lines_length)/\2, \1/'
+notices "$header" tariff_price '/^uint64_t tariff_price\(/,/;$/s/(const int32_t \*lines, size_t lines_length), (int64_t \*amount)/\2, \1/'
+notices "$header" tariff_check_bands '/^uint64_t tariff_check_bands/d'
+notices "$header" tariff_check_bands '/^uint64_t tariff_check_bands/s/uint64_t/uint32_t/'
+notices "$header" tariff_check_bands '/^uint64_t tariff_check_bands/s/const uint32_t \*table/uint32_t *table/'
+notices "$header" tariff_check_bands '/^uint64_t tariff_check_bands/s/const uint32_t \*table/const int32_t *table/'
+notices "$header" tariff_check_bands '/^uint64_t tariff_check_bands/s/, size_t table_length//'
+notices "$header" tariff_check_bands '/^uint64_t tariff_check_bands/s/uint32_t \*age/uint64_t *age/'
+notices "$header" tariff_check_bands '/^uint64_t tariff_check_bands/s/uint32_t \*age/uint32_t age/'
+notices "$header" tariff_check_bands '/^uint64_t tariff_check_bands/s/uint32_t \*age/const &/'
+notices "$header" tariff_check_bands '/^uint64_t tariff_check_bands/s/uint32_t \*age/&, size_t age_length/'
+notices "$header" tariff_price_for_age '/^uint64_t tariff_price_for_age/,/;$/d'
+notices "$header" tariff_price_for_age '/^uint64_t tariff_price_for_age/,/;$/s/int64_t base/uint64_t base/'
+notices "$header" tariff_price_for_age '/^uint64_t tariff_price_for_age/,/;$/s/const uint32_t \*table/uint32_t *table/'
+notices "$header" tariff_price_for_age '/^uint64_t tariff_price_for_age/,/;$/s/, size_t table_length//'
+notices "$header" tariff_price_for_age '/^uint64_t tariff_price_for_age/,/;$/s/uint32_t age, //'
+notices "$header" tariff_price_for_age '/^uint64_t tariff_price_for_age/,/;$/s/uint32_t age/uint64_t age/'
+notices "$header" tariff_price_for_age '/^uint64_t tariff_price_for_age/,/;$/s/uint32_t age/uint32_t *age/'
+notices "$header" tariff_price_for_age '/^uint64_t tariff_price_for_age/,/;$/s/(const uint32_t \*table, size_t table_length), (uint32_t age)/\2, \1/'
+notices "$header" tariff_price_for_age '/^uint64_t tariff_price_for_age/,/;$/s/const int32_t \*lines/const uint32_t *lines/'
+notices "$header" tariff_price_for_age '/^uint64_t tariff_price_for_age/,/;$/s/int64_t \*amount/uint64_t *amount/'
+notices "$header" TARIFF_MOST_AGE '/define TARIFF_MOST_AGE/s/120/121/'
+notices "$header" TARIFF_MOST_BANDS '/define TARIFF_MOST_BANDS/s/64/65/'
+notices "$header" TARIFF_MOST_FACTOR '/define TARIFF_MOST_FACTOR/s/5000/5001/'
+notices "$header" TARIFF_MOST_FACTOR '/define TARIFF_MOST_FACTOR/d'
 notices "$header" TARIFF_MOST_LINES '/define TARIFF_MOST_LINES/s/200/201/'
 notices "$header" TARIFF_MOST_LINES '/define TARIFF_MOST_LINES/d'
 notices "$header" TARIFF_MOST_AMOUNT '/define TARIFF_MOST_AMOUNT/s/$/0/'
@@ -207,16 +235,26 @@ notices "$bench" tariff_quote '/script: \*const u8/{n;d}'
 notices "$bench" tariff_quote '/fn tariff_quote/,/;$/s/out: \*mut u32/out: *mut u64/'
 notices "$bench" tariff_quote 's/ceiling: \*mut u64/ceiling: *mut u32/'
 notices "$bench" tariff_quote '/ceiling: \*mut u64/d'
-notices "$bench" tariff_price '/fn tariff_price/,/;$/d'
-notices "$bench" tariff_price 's/base: i64/base: u64/'
-notices "$bench" tariff_price 's/base: i64/base: i32/'
-notices "$bench" tariff_price 's/base: i64,? *//'
-notices "$bench" tariff_price 's/lines: \*const i32/lines: *mut i32/'
-notices "$bench" tariff_price 's/lines: \*const i32/lines: *const u32/'
-notices "$bench" tariff_price '/lines: \*const i32/{n;d}'
-notices "$bench" tariff_price 's/amount: \*mut i64/amount: *mut u64/'
-notices "$bench" tariff_price 's/amount: \*mut i64/amount: *const i64/'
-notices "$bench" tariff_price '/amount: \*mut i64/d'
+notices "$bench" tariff_price '/fn tariff_price\(/,/;$/d'
+notices "$bench" tariff_price '/fn tariff_price\(/,/;$/s/base: i64/base: u64/'
+notices "$bench" tariff_price '/fn tariff_price\(/,/;$/s/base: i64/base: i32/'
+notices "$bench" tariff_price '/fn tariff_price\(/,/;$/s/base: i64,? *//'
+notices "$bench" tariff_price '/fn tariff_price\(/,/;$/s/lines: \*const i32/lines: *mut i32/'
+notices "$bench" tariff_price '/fn tariff_price\(/,/;$/s/lines: \*const i32/lines: *const u32/'
+notices "$bench" tariff_price '/fn tariff_price\(/,/;$/{/lines: \*const i32/{n;d}}'
+notices "$bench" tariff_price '/fn tariff_price\(/,/;$/s/amount: \*mut i64/amount: *mut u64/'
+notices "$bench" tariff_price '/fn tariff_price\(/,/;$/s/amount: \*mut i64/amount: *const i64/'
+notices "$bench" tariff_price '/fn tariff_price\(/,/;$/{/amount: \*mut i64/d}'
+notices "$bench" tariff_check_bands '/fn tariff_check_bands/d'
+notices "$bench" tariff_check_bands '/fn tariff_check_bands/s/table: \*const u32/table: *mut u32/'
+notices "$bench" tariff_check_bands '/fn tariff_check_bands/s/age: \*mut u32/age: *mut u64/'
+notices "$bench" tariff_check_bands '/fn tariff_check_bands/s/age: \*mut u32/age: u32/'
+notices "$bench" tariff_price_for_age '/fn tariff_price_for_age/,/;$/d'
+notices "$bench" tariff_price_for_age '/fn tariff_price_for_age/,/;$/s/table: \*const u32/table: *mut u32/'
+notices "$bench" tariff_price_for_age '/fn tariff_price_for_age/,/;$/s/age: u32/age: u64/'
+notices "$bench" tariff_price_for_age '/fn tariff_price_for_age/,/;$/s/age: u32,? *//'
+notices "$bench" tariff_price_for_age '/fn tariff_price_for_age/,/;$/s/lines: \*const i32/lines: *const u32/'
+notices "$bench" tariff_price_for_age '/fn tariff_price_for_age/,/;$/s/amount: \*mut i64/amount: *mut u64/'
 notices "$bench" tariff_lookup '/fn tariff_lookup/s/session: \*const/session: *mut/'
 notices "$bench" tariff_read '/fn tariff_read/s/u64;/u32;/'
 notices "$source" tariff_open '/fn tariff_open/s/tariff_open/tariff_open(other: u32, /; /fn tariff_open/s/, \(book/, book/'
@@ -230,14 +268,24 @@ notices "$source" tariff_quote '/fn tariff_quote/,/-> u64/s/out: &mut \[u32\]/ou
 notices "$source" tariff_quote 's/ceiling: &mut u64/ceiling: \&mut [u64]/'
 notices "$source" tariff_quote '/ceiling: &mut u64/d'
 notices "$source" tariff_quote '/script: &\[u8\]/{h;d}; /ceiling: &mut u64/{G}'
-notices "$source" tariff_price 's/base: i64/base: u64/'
-notices "$source" tariff_price 's/base: i64/base: \&mut i64/'
-notices "$source" tariff_price 's/lines: &\[i32\]/lines: \&mut [i32]/'
-notices "$source" tariff_price 's/lines: &\[i32\]/lines: \&[u32]/'
-notices "$source" tariff_price 's/amount: &mut i64/amount: \&mut u64/'
-notices "$source" tariff_price 's/amount: &mut i64/amount: \&mut [i64]/'
-notices "$source" tariff_price 's/amount: &mut i64,?//'
-notices "$source" tariff_price 's/base: i64/lines: \&[i32]/; t; s/lines: &\[i32\]/base: i64/'
+notices "$source" tariff_price '/fn tariff_price\(/,/-> u64/s/base: i64/base: u64/'
+notices "$source" tariff_price '/fn tariff_price\(/,/-> u64/s/base: i64/base: \&mut i64/'
+notices "$source" tariff_price '/fn tariff_price\(/,/-> u64/s/lines: &\[i32\]/lines: \&mut [i32]/'
+notices "$source" tariff_price '/fn tariff_price\(/,/-> u64/s/lines: &\[i32\]/lines: \&[u32]/'
+notices "$source" tariff_price '/fn tariff_price\(/,/-> u64/s/amount: &mut i64/amount: \&mut u64/'
+notices "$source" tariff_price '/fn tariff_price\(/,/-> u64/s/amount: &mut i64/amount: \&mut [i64]/'
+notices "$source" tariff_price '/fn tariff_price\(/,/-> u64/s/amount: &mut i64,?//'
+notices "$source" tariff_price '/fn tariff_price\(/,/-> u64/{s/base: i64/lines: \&[i32]/; t; s/lines: &\[i32\]/base: i64/}'
+notices "$source" tariff_check_bands '/fn tariff_check_bands/s/table: &\[u32\]/table: \&mut [u32]/'
+notices "$source" tariff_check_bands '/fn tariff_check_bands/s/age: &mut u32/age: \&mut u64/'
+notices "$source" tariff_check_bands '/fn tariff_check_bands/s/age: &mut u32/age: \&mut [u32]/'
+notices "$source" tariff_check_bands '/fn tariff_check_bands/s/age: &mut u32/age: u32/'
+notices "$source" tariff_price_for_age '/fn tariff_price_for_age/,/-> u64/s/base: i64/base: u64/'
+notices "$source" tariff_price_for_age '/fn tariff_price_for_age/,/-> u64/s/table: &\[u32\]/table: \&[i32]/'
+notices "$source" tariff_price_for_age '/fn tariff_price_for_age/,/-> u64/s/age: u32/age: u64/'
+notices "$source" tariff_price_for_age '/fn tariff_price_for_age/,/-> u64/s/age: u32/age: \&mut u32/'
+notices "$source" tariff_price_for_age '/fn tariff_price_for_age/,/-> u64/s/lines: &\[i32\]/lines: \&[u32]/'
+notices "$source" tariff_price_for_age '/fn tariff_price_for_age/,/-> u64/{s/table: &\[u32\]/age: u32/; t; s/age: u32/table: \&[u32]/}'
 notices "$steps" step_decide '/fn step_decide/d'
 notices "$steps" step_decide '/fn step_decide/s/literal: u32/literal: u64/'
 notices "$steps" step_backtrack '/fn step_backtrack/s/session: \*mut/session: *const/'

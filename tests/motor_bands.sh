@@ -166,5 +166,7 @@ notices 's/(TARIFF_LINE_NUMBERS) 3/\1 2/'
 notices 's/(TARIFF_AMOUNT) 0/\1 1/; s/(TARIFF_THOUSANDTHS) 1/\1 0/'
 notices '/ tariff_number/s/\)answer/)(answer >> 1)/'
 notices '/ tariff_kind/s/>> 32/>> 33/'
+notices '/ tariff_good/s/== 0/!= 0/'
+notices '/ tariff_good/s/answer == 0/tariff_kind(answer) != TARIFF_REFUSED/'
 echo "$name: notices ${#faults[@]} wrong prices, ${#outputs[@]} wrong outputs and $noticed wrong headers, and says of $((unfit - 3)) tables what is wrong"
 echo "$name: ${#tables[@]} other tables print other premiums, as due, and ${#same[@]} the same; ${#lists[@]} other rate lists and ${#scripts[@]} scripts are priced as due"

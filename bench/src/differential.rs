@@ -10,30 +10,30 @@ use crate::random::Random;
 use crate::rates::{self, Rates};
 use crate::script::{session_length, Call, Workload};
 use crate::steps;
+use crate::tables;
+use crate::tally::Tally;
 use std::rc::Rc;
 
 /// Lent numbers behind the required length, which no call may change.
 const MARGIN: usize = 3;
 
-/// One more than the greatest refusal number.
-const REFUSALS: usize = 23;
-
 /// The calls of a list.
 const LIST: usize = 24;
 
-/// The refusal numbers of a price.
+/// The refusal numbers of a price, of a table of age bands, and of a price by age.
 pub const PRICE_REFUSALS: [usize; 5] = [11, 12, 14, 19, 20];
+pub const TABLE_REFUSALS: [usize; 2] = [25, 26];
+pub const AGE_REFUSALS: [usize; 7] = [11, 12, 14, 19, 20, 25, 26];
 
-/// How many calls were compared, by what they answered, how many of them gave a price and how many refused one, by the number, in how many states every
-/// variable was looked up, how many steps left the numbers of the call, how many states CaDiCaL confirmed afresh, and how many it answered alike when
-/// kept, or by what it had learnt.
+/// How many calls were compared, by what they answered, and among them prices, checked tables and prices by age, in how many states every variable was
+/// looked up, how many steps left the numbers of the call, how many states CaDiCaL confirmed afresh, and how many it answered alike when kept, or by what
+/// it had learnt.
 #[derive(Default)]
 pub struct Compared {
-    pub accepted: usize,
-    pub conflicts: usize,
-    pub refused: [usize; REFUSALS],
-    pub priced: usize,
-    pub unpriced: [usize; REFUSALS],
+    pub all: Tally,
+    pub prices: Tally,
+    pub tables: Tally,
+    pub prices_by_age: Tally,
     pub looked_up: usize,
     pub steps: usize,
     pub confirmed: usize,
@@ -63,16 +63,8 @@ impl Compared {
         let other = call(PLAIN, &mut others);
         assert_eq!(answer, other, "the answers differ");
         assert!(*numbers == others, "the numbers differ after {answer:?}");
-        match answer {
-            Answer::Accepted(_) => self.accepted += 1,
-            Answer::Conflict(_) => self.conflicts += 1,
-            Answer::Refused(number) => self.refused[number as usize] += 1,
-        }
+        self.all.add(answer);
         answer
-    }
-
-    pub fn refusals(&self) -> usize {
-        self.refused.iter().sum()
     }
 
     /// The calls that change nothing.
@@ -101,7 +93,7 @@ impl Compared {
         self.chapters(random, book, session);
         self.any_quote(random, book);
         let rates = rates::any(random, book, session);
-        self.price(book, session, &rates);
+        self.any_prices(random, book, session, &rates);
     }
 
     /// The sums by chapter: from one chapter fewer than there are clauses to two more, now and then up to 32 instead of 31, and 31 to 34 sums.
@@ -144,26 +136,52 @@ impl Compared {
         }
     }
 
-    /// The price by a rate list; the amount, as its bits, is the one number.
-    fn price(&mut self, book: &[u32], session: &[u32], rates: &Rates) {
-        let answer = self.both(&mut vec![7; 2], |engine, halves| {
+    /// A call that gives an amount, which, as its bits, is the one number.
+    fn amount(&mut self, call: impl Fn(&dyn Engine, &mut i64) -> Answer) -> Answer {
+        self.both(&mut vec![7; 2], |engine, halves| {
             let mut amount = 7;
-            let answer = engine.price(book, session, rates.base, &rates.lines, &mut amount);
+            let answer = call(engine, &mut amount);
             halve(&[amount as u64], halves);
             answer
-        });
-        match answer {
-            Answer::Refused(number) => self.unpriced[number as usize] += 1,
-            _ => self.priced += 1,
-        }
+        })
     }
 
-    /// Prices gave an amount, and were refused by each of their numbers.
+    /// The price by a rate list.
+    fn price(&mut self, book: &[u32], session: &[u32], Rates { base, lines }: &Rates) {
+        let answer = self.amount(|engine, amount| engine.price(book, session, *base, lines, amount));
+        self.prices.add(answer);
+    }
+
+    /// Whether a table of age bands is good; the age at fault is the one number.
+    fn table(&mut self, table: &[u32]) {
+        let answer = self.both(&mut vec![u32::MAX], |engine, age| {
+            engine.check_bands(table, &mut age[0])
+        });
+        self.tables.add(answer);
+    }
+
+    /// The price by a rate list and a table of age bands.
+    fn price_for_age(&mut self, book: &[u32], session: &[u32], rates: &Rates, table: &[u32], age: u32) {
+        let Rates { base, lines } = rates;
+        let answer =
+            self.amount(|engine, amount| engine.price_for_age(book, session, *base, table, age, lines, amount));
+        self.prices_by_age.add(answer);
+    }
+
+    /// The price by a rate list, and by any table and age too; the table is checked by itself.
+    fn any_prices(&mut self, random: &mut Random, book: &[u32], session: &[u32], rates: &Rates) {
+        self.price(book, session, rates);
+        let table = tables::any(random);
+        self.table(&table);
+        self.price_for_age(book, session, rates, &table, tables::age(random));
+    }
+
+    /// Prices and tables were accepted and refused by each of their numbers, and tables were false.
     fn expect_prices(&self) {
-        assert!(self.priced > 0, "no price gave an amount");
-        for number in PRICE_REFUSALS {
-            assert!(self.unpriced[number] > 0, "no price was refused by {number}");
-        }
+        self.prices.expect("price", &PRICE_REFUSALS);
+        self.tables.expect("table", &TABLE_REFUSALS);
+        assert!(self.tables.falses > 0, "no table was false");
+        self.prices_by_age.expect("price by age", &AGE_REFUSALS);
     }
 
     /// A lookup of every variable, and of the numbers before and behind them.
@@ -243,7 +261,7 @@ impl Compared {
         self.both(&mut Vec::new(), |engine, _| engine.required_length(&broken));
         self.any_quote(random, &broken);
         let rates = rates::any(random, book, session);
-        self.price(&broken, session, &rates);
+        self.any_prices(random, &broken, session, &rates);
         self.both(&mut session.to_vec(), |engine, session| engine.open(&broken, session));
         self.random_calls(random, &broken, session);
     }

@@ -17,4 +17,15 @@ pub trait Engine {
     fn chapters(&self, book: &[u32], session: &[u32], chapters: &[u32], totals: &mut [u64]) -> Answer;
     fn quote(&self, book: &[u32], script: &[u8], out: &mut [u32], ceiling: &mut u64) -> Answer;
     fn price(&self, book: &[u32], session: &[u32], base: i64, lines: &[i32], amount: &mut i64) -> Answer;
+    fn check_bands(&self, table: &[u32], age: &mut u32) -> Answer;
+    fn price_for_age(
+        &self,
+        book: &[u32],
+        session: &[u32],
+        base: i64,
+        table: &[u32],
+        age: u32,
+        lines: &[i32],
+        amount: &mut i64,
+    ) -> Answer;
 }

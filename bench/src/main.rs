@@ -22,6 +22,8 @@ mod scans;
 mod script;
 mod stages;
 mod steps;
+mod tables;
+mod tally;
 mod text;
 mod versions;
 

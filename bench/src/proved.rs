@@ -52,6 +52,20 @@ extern "C" {
         k: usize,
         amount: *mut i64,
     ) -> u64;
+    fn tariff_check_bands(table: *const u32, n: usize, age: *mut u32) -> u64;
+    fn tariff_price_for_age(
+        book: *const u32,
+        n: usize,
+        session: *const u32,
+        m: usize,
+        base: i64,
+        table: *const u32,
+        k: usize,
+        age: u32,
+        lines: *const i32,
+        l: usize,
+        amount: *mut i64,
+    ) -> u64;
 }
 
 pub struct Proved;
@@ -177,6 +191,37 @@ impl Engine for Proved {
                 session.as_ptr(),
                 session.len(),
                 base,
+                lines.as_ptr(),
+                lines.len(),
+                amount,
+            )
+        })
+    }
+
+    fn check_bands(&self, table: &[u32], age: &mut u32) -> Answer {
+        Answer::from_code(unsafe { tariff_check_bands(table.as_ptr(), table.len(), age) })
+    }
+
+    fn price_for_age(
+        &self,
+        book: &[u32],
+        session: &[u32],
+        base: i64,
+        table: &[u32],
+        age: u32,
+        lines: &[i32],
+        amount: &mut i64,
+    ) -> Answer {
+        Answer::from_code(unsafe {
+            tariff_price_for_age(
+                book.as_ptr(),
+                book.len(),
+                session.as_ptr(),
+                session.len(),
+                base,
+                table.as_ptr(),
+                table.len(),
+                age,
                 lines.as_ptr(),
                 lines.len(),
                 amount,

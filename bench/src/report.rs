@@ -1,12 +1,13 @@
 //! The report: every measured figure, and what follows from it, as Markdown.
 use crate::books::{Size, LIMITS, TENTH};
-use crate::differential::{Compared, PRICE_REFUSALS};
+use crate::differential::{Compared, AGE_REFUSALS, PRICE_REFUSALS, TABLE_REFUSALS};
 use crate::goals::{Goal, Goals, MARGIN};
 use crate::measure::{ROUNDS, TIME};
 use crate::plan::{Group, Plan, Series, Task, ASKED, DECISIONS, GROWTH};
 use crate::rates::LINES;
 use crate::scans::TIMES;
 use crate::stages::STAGES;
+use crate::tally::Tally;
 use crate::text::{grouped, microseconds, percent, ratio, table};
 use crate::versions;
 
@@ -303,34 +304,57 @@ fn prices(groups: &[Group]) -> String {
     )
 }
 
+/// How many calls were refused by each of the numbers.
+fn refused(tally: &Tally, numbers: &[usize]) -> String {
+    let counted = numbers
+        .iter()
+        .map(|&number| format!("{} by {number}", grouped(tally.refused[number] as f64)));
+    format!("others were refused: {}", counted.collect::<Vec<_>>().join(", "))
+}
+
 /// How many prices were answered by an amount and by each refusal.
 fn equal_prices(compared: &Compared) -> String {
-    let refused = PRICE_REFUSALS.map(|number| format!("{} by {number}", grouped(compared.unpriced[number] as f64)));
     format!(
-        "{} prices gave an amount, and others were refused: {}.",
-        grouped(compared.priced as f64),
-        refused.join(", ")
+        "{} prices gave an amount, and {}.",
+        grouped(compared.prices.accepted as f64),
+        refused(&compared.prices, &PRICE_REFUSALS)
+    )
+}
+
+/// How many tables of age bands were good, false and refused, and the same of prices by age as of prices.
+fn equal_ages(compared: &Compared) -> String {
+    format!(
+        "{} tables of age bands were good, {} false, and {}; {} prices by age gave an amount, and {}.",
+        grouped(compared.tables.accepted as f64),
+        grouped(compared.tables.falses as f64),
+        refused(&compared.tables, &TABLE_REFUSALS),
+        grouped(compared.prices_by_age.accepted as f64),
+        refused(&compared.prices_by_age, &AGE_REFUSALS)
     )
 }
 
 fn equal(compared: &Compared) -> String {
-    let numbers = (1..compared.refused.len()).filter(|&number| compared.refused[number] > 0);
+    let all = &compared.all;
+    let numbers = (1..all.refused.len()).filter(|&number| all.refused[number] > 0);
     let named: Vec<String> = numbers.map(|number| number.to_string()).collect();
     format!(
-        "Both engines gave equal answers and left equal numbers in {} calls: {} accepted, {} in conflict, {} refused (numbers {}).\n\
+        "Both engines gave equal answers and left equal numbers in {} calls: {} accepted, {} in conflict, {} refused (numbers {}), {} false.\n\
          These are all workloads and texts above, random calls between them, small books, damaged sessions, books and texts,\n\
-         quotes for scripts of good and of strange lines, and prices by rate lists in range and nearly so.\n\
+         quotes for scripts of good and of strange lines, and prices by rate lists and tables of age bands in range and nearly so.\n\
+         {}\n\
          {}\n\
          In {} states every feature was looked up, with its level.\n\
          The engine's steps without examination left the same numbers as the call in {} steps: all accepted decisions and backtracks of the scripts, and all accepted fixings.\n\
          In {} of the states CaDiCaL, asked afresh, propagated the same values, or a conflict where the session has one.\n\
          Kept, it answered {} questions as the session does, and {} by a conflict that it had learnt and propagation alone does not reach.\n",
-        grouped((compared.accepted + compared.conflicts + compared.refusals()) as f64),
-        grouped(compared.accepted as f64),
-        grouped(compared.conflicts as f64),
-        grouped(compared.refusals() as f64),
+        grouped(all.calls() as f64),
+        grouped(all.accepted as f64),
+        grouped(all.conflicts as f64),
+        grouped(all.refusals() as f64),
         named.join(", "),
+        grouped(all.falses as f64),
         equal_prices(compared),
+        equal_ages(compared),
         grouped(compared.looked_up as f64),
         grouped(compared.steps as f64),
         grouped(compared.confirmed as f64),

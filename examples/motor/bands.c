@@ -59,11 +59,11 @@ static void say_several(uint32_t age) {
 static int judge(void) {
     uint32_t age;
     uint64_t answer = tariff_check_bands(table, TARIFF_BAND_NUMBERS * bands, &age);
-    if (tariff_kind(answer) == TARIFF_FALSE) say_false();
-    else if (tariff_kind(answer) == TARIFF_ACCEPTED) printf("the table is good: every age from 0 to %d lies in exactly one band\n", TARIFF_MOST_AGE);
+    if (tariff_good(answer)) printf("the table is good: every age from 0 to %d lies in exactly one band\n", TARIFF_MOST_AGE);
+    else if (tariff_kind(answer) == TARIFF_FALSE) say_false();
     else if (tariff_number(answer) == 25) printf("age %u lies in no band (25)\n", age);
     else say_several(age);
-    return tariff_kind(answer) == TARIFF_ACCEPTED;
+    return (int)tariff_good(answer);
 }
 
 /* Whether there is a premium at an age; by the first lines alone, with how many of them are open. */

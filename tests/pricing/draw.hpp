@@ -14,10 +14,7 @@
 
 class Draw {
 public:
-    Draw(Random& random, const Library& library) : random(random), parts(random, library, lent.book, lent.session) {
-        if (random.chance(5)) lengthen(lent.book, TARIFF_BOOK);
-        if (random.chance(5)) lengthen(lent.session, TARIFF_SESSION);
-        sort_literals();
+    Draw(Random& random, const Library& library) : Draw(random, library, Unlisted{}) {
         list();
         lend();
         refusal = parts.damage();
@@ -26,8 +23,17 @@ public:
     Lending lent;
     std::optional<uint64_t> refusal;  // the number by which the examination refuses, where it is known; 0 where it does not
 
-private:
+protected:
     using Literals = std::vector<int32_t>;
+
+    // The base and the list are still to be drawn and lent.
+    struct Unlisted {};
+
+    Draw(Random& random, const Library& library, Unlisted) : random(random), parts(random, library, lent.book, lent.session) {
+        if (random.chance(5)) lengthen(lent.book, TARIFF_BOOK);
+        if (random.chance(5)) lengthen(lent.session, TARIFF_SESSION);
+        sort_literals();
+    }
 
     int64_t wide_below(int64_t n) { return static_cast<int64_t>(random.next() % static_cast<uint64_t>(n)); }
     size_t below(size_t n) { return static_cast<size_t>(wide_below(static_cast<int64_t>(n))); }

@@ -63,10 +63,9 @@ inline State state_of(const Numbers& trail, int32_t literal) {
     return is_true(trail, literal) ? State::TRUE : is_true(trail, literal ^ 1) ? State::FALSE : State::OPEN;
 }
 
-// The lines in their order, until the running amount is too far from zero.
-inline Due apply_lines(const Lending& lent, const Numbers& trail, const Rounding& rounding) {
+// The lines in their order from this amount on, until it is too far from zero.
+inline Due apply_lines(int64_t running, const Lending& lent, const Numbers& trail, const Rounding& rounding) {
     Due due;
-    int64_t running = lent.base;
     bool within = true;
     for (const Line& line : lent.lines()) {
         due.states.push_back(state_of(trail, line.literal));
@@ -87,26 +86,36 @@ inline Due due_of(const Lending& lent, const Ways& ways = {}) {
     if (tariff_kind(answer) == TARIFF_REFUSED) return {answer, lent.amount()};
     if (in_conflict(lent)) return {c_refusal(14), lent.amount()};
     if (Faults(lent).count() > 0) return {c_refusal(19), lent.amount()};
-    return apply_lines(lent, trail, ways.rounding);
+    return apply_lines(lent.base, lent, trail, ways.rounding);
 }
 
 inline void compare_amount(int64_t seen, int64_t expected, const std::string& name) {
     expect(seen == expected, name + " is " + std::to_string(seen) + ", must be " + std::to_string(expected));
 }
 
-// A call in one of these ways. Where it is known by which number the examination refuses, 0 where it does not, what is due is held to that. Answers what was
-// due. The disagreement begins with the name of what differs.
-inline Due compare_price(Lending lent, std::optional<uint64_t> refusal, const Ways& ways) {
-    const Lending before = lent;
-    Due due = due_of(lent, ways);
+// What is due is held to the number by which the examination refuses, 0 where it does not, if that is known.
+inline void compare_refusal(const Due& due, std::optional<uint64_t> refusal) {
     bool examined_out = due.answer == c_refusal(11) || due.answer == c_refusal(12);
     if (refusal) compare_number(examined_out ? tariff_number(due.answer) : 0, *refusal, "refusal of the trail", 0);
-    for (int64_t product : due.products) compare_rounding(product, ways.rounding);
-    compare_number(ways.price(lent), due.answer, "answer with list numbers", lent.rates.length);
+}
+
+// What a call answered and left. The disagreement begins with the name of what differs.
+inline void compare_call(uint64_t answer, const Lending& lent, const Lending& before, const Due& due) {
+    compare_number(answer, due.answer, "answer with list numbers", lent.rates.length);
     compare_amount(lent.amount(), due.amount, "amount");
     for (size_t i : {0, 2}) compare_number(lent.amounts[i], before.amounts[i], "number beside the amount", i);
     compare_memory(lent.book.memory, before.book.memory, "number of the book");
     compare_memory(lent.session.memory, before.session.memory, "number of the session");
     compare_memory(lent.rates.memory, before.rates.memory, "number of the list");
+}
+
+// A call in one of these ways. Answers what was due.
+inline Due compare_price(Lending lent, std::optional<uint64_t> refusal, const Ways& ways) {
+    const Lending before = lent;
+    Due due = due_of(lent, ways);
+    compare_refusal(due, refusal);
+    for (int64_t product : due.products) compare_rounding(product, ways.rounding);
+    uint64_t answer = ways.price(lent);
+    compare_call(answer, lent, before, due);
     return due;
 }

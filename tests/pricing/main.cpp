@@ -1,10 +1,8 @@
-// By the library, the premium of a session is K1's: answer, amount and all lent memory. Wrong ways to price must be noticed, on random calls and on worked
-// ones, and right ones must not.
-#include <algorithm>
-#include <cstddef>
+// By the library, the premium of a session is K1's, and what is said of a table of age bands and the premium for an age are K9's: answer, what is written, and
+// all lent memory. Wrong ways must be noticed, on random calls and on worked ones, and right ones must not.
 #include <cstdint>
+#include <functional>
 #include <iostream>
-#include <map>
 #include <stdexcept>
 #include <string>
 #include <vector>
@@ -12,14 +10,21 @@
 #include "../support/bench.hpp"
 #include "../support/cases.hpp"
 #include "../support/repeats.hpp"
-#include "draw.hpp"
+#include "aged_draw.hpp"
+#include "aged_methods.hpp"
+#include "aged_tally.hpp"
+#include "aged_worked.hpp"
 #include "methods.hpp"
+#include "relations.hpp"
+#include "table_methods.hpp"
 #include "tally.hpp"
-#include "worked.hpp"
+#include "trial.hpp"
 
 namespace {
 
 constexpr int CASES = 1200;
+constexpr int AGED = 600;
+constexpr int RELATED = 100;
 constexpr int SELF_CHECKS = 300;
 constexpr int RIGHT_CHECKS = 60;
 constexpr int ENOUGH = 3;
@@ -44,7 +49,7 @@ std::string any_book(Random& random, const shapes::Shape& shape, const std::stri
 }
 
 // Calls on the states that a random session comes to.
-void run_case(uint64_t seed, const shapes::Shape& shape, const std::string& motor, const Ways& ways, Tally& tally) {
+void run_case(uint64_t seed, const shapes::Shape& shape, const std::string& motor, const std::function<void(Random&, const Library&)>& make_call) {
     Random random(seed);
     Library library(random, any_book(random, shape, motor));
     library.open();
@@ -52,86 +57,128 @@ void run_case(uint64_t seed, const shapes::Shape& shape, const std::string& moto
         if (random.chance(40)) wander(random, library, random.between(1, random.chance(95) ? 20 : 200));
         if (random.chance(4)) assign_all(random, library);
         if (random.chance(40) && library.conflict() != 0) library.take({Call::BACKTRACK, 1});
-        Draw draw(random, library);
-        tally.add(draw.lent, compare_price(draw.lent, draw.refusal, ways));
+        make_call(random, library);
     }
 }
 
-// A case as Cases runs it.
-auto by(const std::string& motor, const Ways& ways, Tally& tally) {
-    return [&](uint64_t seed, const shapes::Shape& shape) { run_case(seed, shape, motor, ways, tally); };
+std::string kind_of(uint64_t answer) {
+    if (answer == FALSE_TABLE) return "false";
+    return tariff_kind(answer) == TARIFF_REFUSED ? "refused by " + std::to_string(tariff_number(answer)) : "accepted";
 }
 
-// How many of the worked calls notice these ways by this part.
-long noticed_of(const std::vector<Posed>& worked, const std::string& part, const Ways& ways) {
-    return std::count_if(worked.begin(), worked.end(), [&](const Posed& posed) { return disagrees(part, [&] { compare_worked(posed, ways); }); });
+// The answer of a row changed, and its amount where it has one.
+template <class Row>
+std::vector<WrongRow<Row>> changed_amounts(const Row& right) {
+    Row answer = right, amount = right;
+    answer.worked.answer++;
+    amount.worked.amount ^= 1;
+    if (tariff_kind(right.worked.answer) == TARIFF_REFUSED) return {{"worked answer", answer}};
+    return {{"worked answer", answer}, {"worked amount", amount}};
 }
 
-// A wrong one is tried until enough cases noticed it by its part, and some worked calls must; of a right one none does, by any part.
-void check_methods(const methods::List& list, const std::string& motor, const std::vector<Posed>& worked, int most, int due) {
-    const char* before = " ";
-    for (const methods::Named& named : list) {
-        Tally tally;
-        auto [noticed, tried] = cases.trial(most, ENOUGH, [&](uint64_t seed, const shapes::Shape& shape) {
-            expect(!disagrees(named.part, [&] { run_case(seed, shape, motor, named.ways, tally); }), "noticed");
+// A good table that is called false, another number, and another age.
+std::vector<WrongRow<WorkedTable>> changed_tables(const WorkedTable& right) {
+    WorkedTable other = right, number = right, age = right;
+    other.checked = {!right.checked.is_false};
+    number.checked.number ^= 25 ^ 26;
+    age.checked.age++;
+    if (right.checked.number == 0) return {{"worked answer", other}};
+    return {{"worked answer", other}, {"worked answer", number}, {"worked age", age}};
+}
+
+// Compared by the library, with rows that are wrong, and in wrong ways and right ones.
+template <class Way, class Row, class Changed>
+void check(const Calls<Way, Row>& calls, const Way& library, Changed changed, const NamedList<Way>& wrong, const NamedList<Way>& right) {
+    calls.check_rows(library, changed);
+    std::cout << "pricing: noticed, in so many of the cases tried and of the " << calls.name << ":";
+    calls.check_ways(cases, wrong, SELF_CHECKS, ENOUGH, ENOUGH);
+    std::cout << "pricing: right ones:";
+    calls.check_ways(cases, right, RIGHT_CHECKS, ENOUGH, 0);
+}
+
+// By the library on random cases and worked rows.
+template <class Way, class Row>
+bool fails(const Calls<Way, Row>& calls, const Way& library, int count) {
+    int failed = calls.failures(library);
+    return failed + cases.failures(count, [&](uint64_t seed, const shapes::Shape& shape) { calls.compare_case(seed, shape, library); }) > 0;
+}
+
+// K1: premiums.
+int test_prices(const std::string& motor) {
+    Tally tally;
+    auto compare_case = [&](uint64_t seed, const shapes::Shape& shape, const Ways& ways) {
+        run_case(seed, shape, motor, [&](Random& random, const Library& library) {
+            Draw draw(random, library);
+            tally.add(draw.lent, compare_price(draw.lent, draw.refusal, ways));
         });
-        long rows = noticed_of(worked, named.part, named.ways);
-        std::string result = named.name + " " + std::to_string(noticed) + " of " + std::to_string(tried) + " and " + std::to_string(rows);
-        if (noticed != due || (rows > 0) != (due > 0)) throw std::runtime_error("noticed: " + result + ", must be " + std::to_string(due));
-        std::cout << before << result;
-        before = ", ";
-    }
-    std::cout << std::endl;
+    };
+    auto compare_row = [](const Posed& posed, const Ways& ways) { return kind_of(compare_worked(posed, ways).answer); };
+    const Calls<Ways, Posed> calls{"worked calls", posed_values(), compare_case, compare_row};
+    if (fails(calls, Ways{}, CASES)) return 1;
+    tally.print();
+    check(calls, Ways{}, changed_amounts<Posed>, methods::wrong_list(), methods::right_list());
+    return 0;
 }
 
-// Each number of a worked value changed by one.
-void check_worked(const std::vector<Posed>& worked) {
-    long noticed = 0;
-    for (const Posed& right : worked) {
-        Posed answer = right, amount = right;
-        answer.worked.answer++;
-        amount.worked.amount ^= 1;
-        bool refused = tariff_kind(right.worked.answer) == TARIFF_REFUSED;
-        bool told = disagrees("worked answer", [&] { compare_worked(answer, {}); });
-        bool written = disagrees("worked amount", [&] { compare_worked(amount, {}); });
-        if (!told || written == refused) throw std::runtime_error("not noticed in a wrong worked value: " + right.worked.name);
-        noticed += refused ? 1 : 2;
-    }
-    std::cout << "pricing: " << noticed << " wrong worked values noticed" << std::endl;
-}
-
-// How many worked calls are not as they must be.
-int worked_failures(const std::vector<Posed>& worked) {
-    int failed = 0;
-    std::map<uint64_t, long> answers;
-    for (const Posed& posed : worked) {
-        try {
-            Due due = compare_worked(posed, {});
-            answers[due.refused() ? tariff_number(due.answer) : 0]++;
-        } catch (const Disagreement& disagreement) {
-            failed++;
-            std::cout << "FAILED " << posed.worked.name << ": " << disagreement.what() << "\n";
+// K9: tables.
+int test_tables() {
+    TableTally tally;
+    auto compare_case = [&](uint64_t seed, const shapes::Shape&, const Checker& check) {
+        Random random(seed);
+        for (int tables = 12; tables > 0; tables--) {
+            const Checking lent = Tables(random).any_checking();
+            tally.add(lent, compare_check(lent, check));
         }
-    }
-    std::cout << "pricing: " << worked.size() << " worked calls";
-    for (auto [number, count] : answers) std::cout << ", " << (number == 0 ? "accepted" : "refused by " + std::to_string(number)) << ": " << count;
-    std::cout << std::endl;
-    return failed;
+    };
+    auto compare_row = [](const WorkedTable& worked, const Checker& check) { return kind_of(answer_of(compare_table(worked, check))); };
+    const Calls<Checker, WorkedTable> calls{"worked tables", worked_tables(), compare_case, compare_row};
+    const Checker library = check_by_library;
+    if (fails(calls, library, CASES)) return 1;
+    tally.print();
+    check(calls, library, changed_tables, methods::wrong_checkers(), methods::right_checkers());
+    return 0;
+}
+
+// K9: premiums for an age.
+int test_ages(const std::string& motor) {
+    AgedTally tally;
+    auto compare_case = [&](uint64_t seed, const shapes::Shape& shape, const AgedMethod& price) {
+        run_case(seed, shape, motor, [&](Random& random, const Library& library) {
+            AgedDraw draw(random, library);
+            const AgedLending lent = draw.for_age();
+            tally.add(lent, compare_for_age(lent, draw.refusal, price));
+        });
+    };
+    auto compare_row = [](const AgedPosed& posed, const AgedMethod& price) { return kind_of(compare_worked(posed, price).answer); };
+    const Calls<AgedMethod, AgedPosed> calls{"worked calls for an age", posed_ages(), compare_case, compare_row};
+    const AgedMethod library = for_age_by_library;
+    if (fails(calls, library, AGED)) return 1;
+    tally.print();
+    check(calls, library, changed_amounts<AgedPosed>, methods::wrong_aged(), methods::right_aged());
+    return 0;
+}
+
+// K9: several calls together.
+int test_relations(const std::string& motor) {
+    auto compare_case = [&](uint64_t seed, const shapes::Shape& shape, const AgedMethod& price) {
+        run_case(seed, shape, motor, [&](Random& random, const Library& library) { compare_relations(random, AgedDraw(random, library).for_age(), price); });
+    };
+    auto compare_row = [](const AgedPosed& posed, const AgedMethod& price) {
+        compare_all_relations(posed, price);
+        return std::string("compared");
+    };
+    const Calls<AgedMethod, AgedPosed> calls{"calls at all ages", related_calls(), compare_case, compare_row};
+    const AgedMethod library = for_age_by_library;
+    if (fails(calls, library, RELATED)) return 1;
+    std::cout << "pricing: noticed, in so many of the cases tried and of these:";
+    calls.check_ways(cases, methods::wrong_relations(), SELF_CHECKS, ENOUGH, ENOUGH);
+    return 0;
 }
 
 int test(const std::string& motor) {
     check_roundings();
-    const std::vector<Posed> worked = posed_values();
-    Tally tally;
-    const Ways library;
-    if (worked_failures(worked) + cases.failures(CASES, by(motor, library, tally)) > 0) return 1;
-    check_worked(worked);
-    std::cout << "pricing: noticed, in so many of the cases tried and of the worked calls:";
-    check_methods(methods::wrong_list(), motor, worked, SELF_CHECKS, ENOUGH);
-    std::cout << "pricing: right ones:";
-    check_methods(methods::right_list(), motor, worked, RIGHT_CHECKS, 0);
-    tally.print();
-    return 0;
+    check_scaling();
+    return test_prices(motor) + test_tables() + test_ages(motor) + test_relations(motor) == 0 ? 0 : 1;
 }
 
 }  // namespace

@@ -15,6 +15,7 @@
 #include <vector>
 
 #include "../support/call_then.hpp"
+#include "named.hpp"
 #include "recipe.hpp"
 
 namespace methods {
@@ -65,24 +66,17 @@ Method refused_where(uint64_t number, Condition condition) {
     });
 }
 
-struct Named {
-    std::string name, part;  // the part is how the disagreement begins
-    Ways ways;
-};
-
-using List = std::vector<Named>;
+using List = NamedList<Ways>;
 
 // Ways to price that this part must notice.
 inline List noticed_by(const std::string& part, std::initializer_list<std::pair<const char*, Method>> ways) {
     List list;
     for (const auto& [name, price] : ways) {
         list.push_back({name, part, {}});
-        list.back().ways.price = price;
+        list.back().way.price = price;
     }
     return list;
 }
-
-inline void append(List& list, const List& more) { list.insert(list.end(), more.begin(), more.end()); }
 
 // Wrong in the addend of a change in thousandths.
 inline List wrong_changes() {

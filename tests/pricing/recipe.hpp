@@ -12,8 +12,17 @@
 
 namespace methods {
 
+// A line and the state of its literal.
+struct Stated {
+    Line line;
+    State state;
+};
+
+using Lines = std::vector<Stated>;
+
 // What is found of a call before it is answered.
 struct Found {
+    Lines lines{};  // in the order in which they apply
     uint64_t examination = 0;  // the refusal of the trail, or 0
     bool conflict = false, bad_base = false, bad_list = false;
     std::optional<size_t> bad_line, beyond_line;  // the first ones
@@ -22,14 +31,6 @@ struct Found {
 
     bool out_of_range() const { return bad_base || bad_list || bad_line; }
 };
-
-// A line and the state of its literal.
-struct Stated {
-    Line line;
-    State state;
-};
-
-using Lines = std::vector<Stated>;
 
 // Each refusal where its cause is found, or 0.
 inline uint64_t answer_14(const Found& found) { return found.conflict ? 14 : 0; }
@@ -89,35 +90,40 @@ inline Wide apply(const Recipe& recipe, Wide running, const Lending& lent, const
     return std::clamp(next, -FAR, FAR);
 }
 
-inline void apply_all(const Recipe& recipe, const Lending& lent, const Lines& lines, Found& found) {
-    found.amount = lent.base;
-    for (size_t i = 0; i < lines.size(); i++) {
-        if (!found.bad_line && !fits(recipe, lines[i], lent.variables())) found.bad_line = i;
-        found.amount = apply(recipe, found.amount, lent, lines[i]);
-        found.beyond_at_end = !recipe.within(found.amount, lines[i]);
+inline void apply_all(const Recipe& recipe, const Lending& lent, Found& found) {
+    for (size_t i = 0; i < found.lines.size(); i++) {
+        if (!found.bad_line && !fits(recipe, found.lines[i], lent.variables())) found.bad_line = i;
+        found.amount = apply(recipe, found.amount, lent, found.lines[i]);
+        found.beyond_at_end = !recipe.within(found.amount, found.lines[i]);
         if (!found.beyond_line && found.beyond_at_end) found.beyond_line = i;
     }
 }
 
-inline uint64_t price_by(const Recipe& recipe, Lending& lent) {
+// From such an amount on.
+inline Found find_from(Wide start, const Recipe& recipe, const Lending& lent) {
     Found found;
     Numbers trail;
-    Lines lines;
     uint64_t answer = copy_trail(lent, trail);
     found.bad_base = !recipe.base(lent.base);
     found.bad_list = !recipe.length(lent.rates.length);
     if (tariff_kind(answer) == TARIFF_REFUSED) {
         found.examination = tariff_number(answer);
-        return c_refusal(recipe.refusal(found));
+        return found;
     }
     found.conflict = lent.session.memory[CONFLICT] != 0;
-    for (const Line& line : lent.lines()) lines.push_back({line, state_by_value(lent, line.literal)});
-    lines = recipe.order(lines);
-    apply_all(recipe, lent, lines, found);
+    for (const Line& line : lent.lines()) found.lines.push_back({line, state_by_value(lent, line.literal)});
+    found.lines = recipe.order(found.lines);
+    found.amount = start;
+    apply_all(recipe, lent, found);
+    return found;
+}
+
+inline uint64_t price_by(const Recipe& recipe, Lending& lent) {
+    Found found = find_from(lent.base, recipe, lent);
     uint64_t refusal = recipe.refusal(found);
     if (refusal != 0) return c_refusal(refusal);
     lent.amount() = static_cast<int64_t>(found.amount);
-    return recipe.count(lines);
+    return recipe.count(found.lines);
 }
 
 inline Method by(const Recipe& recipe) {

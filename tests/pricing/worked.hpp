@@ -258,6 +258,8 @@ struct Posed {
     uint64_t refusal = 0;  // the number by which the examination refuses; 0 where it does not
 };
 
+inline std::string name_of(const Posed& posed) { return posed.worked.name; }
+
 inline Posed pose(const Worked& worked) {
     Library library = session_in(worked.situation);
     const Numbers &book = library.lent_book().numbers, &session = library.lent_session().numbers;

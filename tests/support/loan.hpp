@@ -27,6 +27,7 @@ inline void compare_number(uint64_t seen, uint64_t expected, const std::string& 
 
 template <class Number>
 void compare_memory(const std::vector<Number>& memory, const std::vector<Number>& expected, const std::string& name) {
+    if (memory == expected) return;
     for (size_t i = 0; i < expected.size(); i++) compare_number(memory[i], expected[i], name, i);
 }
 

@@ -192,13 +192,35 @@ pub fn quote(book: &[u32], script: &[u8], out: &mut [u32], ceiling: &mut u64) ->
     Ok(copied(&[length, worst, backs].map(|number| number as u32), out))
 }
 
-/// How many lines have an open variable; the amount goes to `amount`.
-pub fn price(book: &[u32], session: &[u32], base: i64, lines: &[i32], amount: &mut i64) -> Outcome {
+/// The values of a session that passes and has no conflict, or the refusal number.
+fn consistent<'s>(book: &[u32], session: &'s [u32]) -> Result<&'s [u32], u32> {
     let (_, parts) = validated(book, session)?;
     if parts.header[CONFLICT] != 0 {
         return Err(14);
     }
-    let (last, open) = rating::price(parts.values, base, lines)?;
+    Ok(parts.values)
+}
+
+/// How many lines have an open variable; the amount goes to `amount`.
+pub fn price(book: &[u32], session: &[u32], base: i64, lines: &[i32], amount: &mut i64) -> Outcome {
+    let values = consistent(book, session)?;
+    let (last, open) = rating::price(values, base, lines)?;
+    *amount = last;
+    Ok(Answer::Accepted(open))
+}
+
+/// The same, from the base that the table of age bands scales for this age.
+pub fn price_for_age(
+    book: &[u32],
+    session: &[u32],
+    base: i64,
+    table: &[u32],
+    age: u32,
+    lines: &[i32],
+    amount: &mut i64,
+) -> Outcome {
+    let values = consistent(book, session)?;
+    let (last, open) = rating::price_for_age(values, base, table, age, lines)?;
     *amount = last;
     Ok(Answer::Accepted(open))
 }

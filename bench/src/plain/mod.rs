@@ -1,4 +1,5 @@
 //! The plain engine: the same calls in safe Rust, over the same numbers.
+mod bands;
 mod calls;
 mod formula;
 mod layout;
@@ -76,5 +77,22 @@ impl Engine for Plain {
 
     fn price(&self, book: &[u32], session: &[u32], base: i64, lines: &[i32], amount: &mut i64) -> Answer {
         answer(calls::price(book, session, base, lines, amount))
+    }
+
+    fn check_bands(&self, table: &[u32], age: &mut u32) -> Answer {
+        bands::check(table, age)
+    }
+
+    fn price_for_age(
+        &self,
+        book: &[u32],
+        session: &[u32],
+        base: i64,
+        table: &[u32],
+        age: u32,
+        lines: &[i32],
+        amount: &mut i64,
+    ) -> Answer {
+        answer(calls::price_for_age(book, session, base, table, age, lines, amount))
     }
 }

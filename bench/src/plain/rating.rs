@@ -1,4 +1,5 @@
 //! The price by a rate list, from the values of the variables; a line is three numbers: literal, kind of the change, and its size.
+use super::bands;
 
 /// The most of a rate list: its lines, cents of the base, cents of an amount and thousandths on either side of zero; and of the running amount.
 const MAX_LINES: usize = 200;
@@ -9,6 +10,11 @@ const MAX_RUNNING: u64 = 1_000_000_000_000;
 
 /// Numbers of a line.
 const LINE: usize = 3;
+
+/// Thousandths of a cent in cents; halves are rounded away from zero.
+fn rounded(thousandths: i64) -> i64 {
+    (thousandths + 500 * thousandths.signum()) / 1000
+}
 
 enum Change {
     Amount(i32),
@@ -25,14 +31,11 @@ impl Change {
         }
     }
 
-    /// What it adds to an amount, in cents; halves are rounded away from zero.
+    /// What it adds to an amount, in cents.
     fn addend(&self, running: i64) -> i64 {
         match *self {
             Change::Amount(cents) => i64::from(cents),
-            Change::Thousandths(part) => {
-                let product = running * i64::from(part);
-                (product + 500 * product.signum()) / 1000
-            }
+            Change::Thousandths(part) => rounded(running * i64::from(part)),
         }
     }
 }
@@ -62,15 +65,20 @@ fn line_of(values: &[u32], numbers: &[i32]) -> Option<Line> {
     })
 }
 
-/// The amount behind the last line and the lines with an open variable; or 19, where base or list are out of range, or 20.
-pub fn price(values: &[u32], base: i64, numbers: &[i32]) -> Result<(i64, u32), u32> {
+/// The lines of a rate list; or 19, where base or list are out of range.
+fn lines_of<'a>(values: &'a [u32], base: i64, numbers: &'a [i32]) -> Result<impl Iterator<Item = Line> + 'a, u32> {
     let lines = numbers.chunks(LINE).map(|numbers| line_of(values, numbers));
     if !(0..=MAX_BASE).contains(&base) || lines.len() > MAX_LINES || lines.clone().any(|line| line.is_none()) {
         return Err(19);
     }
-    let mut running = base;
+    Ok(lines.flatten())
+}
+
+/// The amount behind the last line, from `start` on, and the lines with an open variable; or 20.
+fn price_from(start: i64, lines: impl Iterator<Item = Line>) -> Result<(i64, u32), u32> {
+    let mut running = start;
     let mut open = 0;
-    for line in lines.flatten() {
+    for line in lines {
         open += u32::from(line.is_open);
         if line.is_true {
             running += line.change.addend(running);
@@ -80,4 +88,17 @@ pub fn price(values: &[u32], base: i64, numbers: &[i32]) -> Result<(i64, u32), u
         }
     }
     Ok((running, open))
+}
+
+/// The price from the base on.
+pub fn price(values: &[u32], base: i64, numbers: &[i32]) -> Result<(i64, u32), u32> {
+    let lines = lines_of(values, base, numbers)?;
+    price_from(base, lines)
+}
+
+/// The price from the base on, times the factor of the age.
+pub fn price_for_age(values: &[u32], base: i64, table: &[u32], age: u32, numbers: &[i32]) -> Result<(i64, u32), u32> {
+    let lines = lines_of(values, base, numbers)?;
+    let factor = bands::factor(table, age)?;
+    price_from(rounded(base * i64::from(factor)), lines)
 }

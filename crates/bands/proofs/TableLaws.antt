@@ -1,6 +1,6 @@
 -- Laws of the definitions that the functions' proofs cite: the ranges, the ages of a band, the loops over bands and over ages.
 use Prim.Native.Nat.{ℕ, suc, _+_, _≤_, _<_}
-use mathlib.Core.Bool.{Bool, true, false, cond, _&&_, and-false}
+use mathlib.Core.Bool.{true, false, cond, _&&_, and-false}
 use mathlib.Core.List.{List, _∷_}
 use mathlib.Core.Logic.{_⊎_, inl, inr}
 use mathlib.Core.Path.{_≡_, refl, sym, ap, _∙_}
@@ -8,12 +8,11 @@ use native.Mathlib.Omega.{arith}
 use borrow.Author.Tests.{eq-eqb, ne-eqb, leb-true, lt-leb, le-leb}
 use lib.Dec.{leb}
 use lib.ListN.{length, drop}
-use mir.Val.{boolByte}
-use Rattle.base.specs.Lists.{keep}
+use Rattle.base.specs.Lists.{all, keep, byThree, allThrees}
 use Rattle.base.proofs.Bools.{below, and-parts}
 use Rattle.base.proofs.Counts.{First, kept-none, kept-first}
-use Rattle.base.proofs.Threes.{threes-ended}
-use Rattle.bands.specs.Bands.{maxAge, maxFactor, bandOf, bandsOf, bandWithin, tableWithin, liesIn, bandsAt, atFault, faultNumber, checkedTable, firstFactor, factorAt, factorBy, factorAnswer}
+use Rattle.base.proofs.Threes.{threes-ended, anyThree, whole-threes}
+use Rattle.bands.specs.Bands.{maxBands, maxAge, maxFactor, bandOf, bandsOf, areBands, bandWithin, tableWithin, liesIn, bandsAt, holders, atFault, faultNumber, checkedTable, firstFactor, factorAt, factorBy, factorAnswer}
 use Rattle.bands.specs.declared.Band.{Band}
 use Rattle.bands.specs.declared.Checked.{Checked}
 use Rattle.bands.specs.declared.Checked.the-variants.{Good, Malformed, Fault}
@@ -72,39 +71,35 @@ module _ (numbers : List ℕ) (age : ℕ) where
     unfolding factorAt bandsOf bandsAt keep
     lies-nowhere last = sym (ap firstFactor (sym (n .rest) ∙ ap (bandsAt age) (threes-ended bandOf numbers at last)))
 
--- a test as a number
-pub byte-is : (t : Bool) → boolByte t ≡ cond t 1 0
-byte-is true = refl
-byte-is false = refl
-
-pub byte-most : (t : Bool) → boolByte t ≤ 1
-byte-most true = omega arith
-byte-most false = omega arith
-
 -- The report on a table within its ranges, by the first age at fault:
 module _ (numbers : List ℕ) where
-  abbrev held : ℕ → ℕ
-  held age = length (bandsAt age (bandsOf numbers))
+  abbrev holding : ℕ → ℕ
+  holding age = holders age (bandsOf numbers)
+
+  -- its ranges, as the loop over the threes tests them
+  pub within-is : tableWithin numbers ≡ (allThrees anyThree numbers && leb (length (byThree bandOf numbers)) maxBands && all bandWithin (byThree bandOf numbers))
+  unfolding tableWithin areBands bandsOf
+  within-is = rw (whole-threes numbers)
 
   pub outside : tableWithin numbers ≡ false → Malformed ≡ checkedTable numbers
   unfolding checkedTable
   outside e = rw e
 
-  pub at-fault : (age : ℕ) → (held age ≡ 1 → ⊥) → atFault (bandsOf numbers) age ≡ true
+  pub at-fault : (age : ℕ) → (holding age ≡ 1 → ⊥) → atFault (bandsOf numbers) age ≡ true
   unfolding atFault
-  at-fault age h = rw (ne-eqb (held age) 1 h)
+  at-fault age h = rw (ne-eqb (holding age) 1 h)
 
-  pub not-at-fault : (age : ℕ) → held age ≡ 1 → atFault (bandsOf numbers) age ≡ false
+  pub not-at-fault : (age : ℕ) → holding age ≡ 1 → atFault (bandsOf numbers) age ≡ false
   unfolding atFault
-  not-at-fault age h = rw (eq-eqb (held age) 1 h)
+  not-at-fault age h = rw (eq-eqb (holding age) 1 h)
 
-  pub number-25 : (age : ℕ) → held age ≡ 0 → 25 ≡ faultNumber (bandsOf numbers) age
+  pub number-25 : (age : ℕ) → holding age ≡ 0 → 25 ≡ faultNumber (bandsOf numbers) age
   unfolding faultNumber
-  number-25 age h = rw (eq-eqb (held age) 0 h)
+  number-25 age h = rw (eq-eqb (holding age) 0 h)
 
-  pub number-26 : (age : ℕ) → 1 < held age → 26 ≡ faultNumber (bandsOf numbers) age
+  pub number-26 : (age : ℕ) → 1 < holding age → 26 ≡ faultNumber (bandsOf numbers) age
   unfolding faultNumber
-  number-26 age h = rw (ne-eqb (held age) 0 (λ z. omega (arith, z, h)))
+  number-26 age h = rw (ne-eqb (holding age) 0 (λ z. omega (arith, z, h)))
 
   module _ (within : tableWithin numbers ≡ true) where
     pub reports-good : ((age : ℕ) → age < suc maxAge → atFault (bandsOf numbers) age ≡ false) → Good ≡ checkedTable numbers
@@ -126,16 +121,16 @@ module _ (numbers : List ℕ) where
 
   module _ (age : ℕ) (r : RightBefore age) where
     module _ (h : age ≤ maxAge) where
-      first-here : (held age ≡ 1 → ⊥) → First (suc maxAge) (atFault (bandsOf numbers)) age
+      first-here : (holding age ≡ 1 → ⊥) → First (suc maxAge) (atFault (bandsOf numbers)) age
       first-here fault = record { small = omega arith; holds = at-fault age fault; none-before = r .none-lower }
 
-      pub held-none : held age ≡ 0 → Fault 25 age ≡ checkedTable numbers
+      pub held-none : holding age ≡ 0 → Fault 25 age ≡ checkedTable numbers
       held-none e = ap (λ (n : ℕ). Fault n age) (number-25 age e) ∙ reports-fault (r .within) age (first-here (λ z. omega (arith, z, e)))
 
-      pub held-several : 1 < held age → Fault 26 age ≡ checkedTable numbers
+      pub held-several : 1 < holding age → Fault 26 age ≡ checkedTable numbers
       held-several e = ap (λ (n : ℕ). Fault n age) (number-26 age e) ∙ reports-fault (r .within) age (first-here (λ z. omega (arith, z, e)))
 
-      pub right-more : held age ≡ 1 → RightBefore (age + 1)
+      pub right-more : holding age ≡ 1 → RightBefore (age + 1)
       right-more e = record { inside = omega arith; within = r .within; none-lower = λ lower k. go lower (below lower age) k }
         where
           go : (lower : ℕ) → (lower < age) ⊎ (age ≤ lower) → lower < age + 1 → atFault (bandsOf numbers) lower ≡ false

@@ -1,10 +1,10 @@
 -- Request K9, age bands the insurer edits: the table, what the checker reports of it, and the factor of an age.
-use Prim.Native.Nat.{ℕ, suc}
-use mathlib.Core.Bool.{Bool, true, cond, not, _&&_}
+use Prim.Native.Nat.{ℕ, suc, _%_}
+use mathlib.Core.Bool.{Bool, cond, not, _&&_}
 use mathlib.Core.List.{List, [], _∷_}
 use lib.Dec.{leb, eqb}
 use lib.ListN.{length}
-use Rattle.base.specs.Lists.{all, keep, table, byThree, allThrees}
+use Rattle.base.specs.Lists.{all, keep, table, byThree}
 use Rattle.bands.specs.declared.Band.{Band}
 use Rattle.bands.specs.declared.Checked.{Checked}
 use Rattle.bands.specs.declared.Checked.the-variants.{Good, Malformed, Fault}
@@ -25,15 +25,12 @@ maxFactor = 5000
 abbrev pub bandOf : ℕ → ℕ → ℕ → Band
 bandOf first last factor = record { first = first; last = last; factor = factor }
 
-abbrev pub anyBand : ℕ → ℕ → ℕ → Bool
-anyBand first last factor = true
-
 unfoldable pub bandsOf : List ℕ → List Band
 bandsOf numbers = byThree bandOf numbers
 
--- the numbers are whole bands
+-- the numbers are whole bands: none is left over
 unfoldable pub areBands : List ℕ → Bool
-areBands numbers = allThrees anyBand numbers
+areBands numbers = eqb (length numbers % 3) 0
 
 -- The ranges.
 unfoldable pub bandWithin : Band → Bool
@@ -42,26 +39,29 @@ bandWithin band = leb (band .first) (band .last) && leb (band .last) maxAge && l
 unfoldable pub tableWithin : List ℕ → Bool
 tableWithin numbers = areBands numbers && leb (length (bandsOf numbers)) maxBands && all bandWithin (bandsOf numbers)
 
--- An age lies in a band from its first age to its last one; the bands that it lies in.
+-- An age lies in a band from its first age to its last one; the bands that it lies in, and how many they are.
 unfoldable pub liesIn : ℕ → Band → Bool
 liesIn age band = leb (band .first) age && leb age (band .last)
 
 unfoldable pub bandsAt : ℕ → List Band → List Band
 bandsAt age bands = keep (liesIn age) bands
 
+abbrev pub holders : ℕ → List Band → ℕ
+holders age bands = length (bandsAt age bands)
+
 -- The ages from 0 to 120, and those at fault: not in exactly one band.
 abbrev pub ages : List ℕ
 ages = table (suc maxAge) (λ (age : ℕ). age)
 
 unfoldable pub atFault : List Band → ℕ → Bool
-atFault bands age = not (eqb (length (bandsAt age bands)) 1)
+atFault bands age = not (eqb (holders age bands) 1)
 
 -- The numbers: 25, the age lies in no band; 26, it lies in several.
 unfoldable pub faultNumber : List Band → ℕ → ℕ
-faultNumber bands age = cond (eqb (length (bandsAt age bands)) 0) 25 26
+faultNumber bands age = cond (eqb (holders age bands) 0) 25 26
 
 -- The first of the ages at fault, which is the lowest.
-abbrev pub firstFault : List Band → List ℕ → Checked
+abbrev firstFault : List Band → List ℕ → Checked
 firstFault bands [] = Good
 firstFault bands (age ∷ higher) = Fault (faultNumber bands age) age
 

@@ -3,7 +3,8 @@ ghost use mathlib.Core.Path.{_≡_};
 ghost use mathlib.Core.List.{_∷_};
 ghost use Prim.Native.Nat.{_<_, _+_};
 ghost use lib.ListN.{length, drop};
-ghost use Rattle.bands.specs.Bands.{bandsOf, bandWithin, tableWithin, liesIn, bandsAt, checkedTable, factorAt, factorAnswer};
+ghost use Rattle.bands.specs.Bands as bands;
+ghost use Rattle.bands.specs.Bands.{bandsOf, bandWithin, tableWithin, liesIn, checkedTable, factorAt, factorAnswer};
 
 // The limits (`maxBands`, `maxAge`, `maxFactor`).
 const MAX_BANDS: usize = 64;
@@ -13,7 +14,7 @@ const MAX_AGE: u32 = 120;
 const MAX_FACTOR: u32 = 5000;
 
 // A band: the ages from a first one to a last one, and their factor in thousandths.
-struct Band {
+pub struct Band {
     first: u32,
     last: u32,
     factor: u32,
@@ -87,7 +88,7 @@ fn lies_in(age: u32, band: Band) -> bool
 
 // How many bands an age lies in.
 fn holders(table: &[u32], age: u32) -> usize
-    ensures { λ r. ⌜ r ≡ length (bandsAt age (bandsOf (now (table .entry)))) ⌝ }
+    ensures { λ r. ⌜ r ≡ bands.holders age (bandsOf (now (table .entry))) ⌝ }
 {
     let mut held = 0;
     let mut at = 0;

@@ -1,10 +1,11 @@
 -- Laws of tests: their cases, their parts, and tests joined by `&&` and `||`.
 use Prim.Native.Nat.{ℕ, _≤_, _<_}
-use mathlib.Core.Bool.{Bool, true, false, _&&_, _||_, true≢false, false≢true}
+use mathlib.Core.Bool.{Bool, true, false, cond, _&&_, _||_, true≢false, false≢true}
 use mathlib.Core.Path.{_≡_, refl, sym, _∙_}
 use mathlib.Core.Logic.{_⊎_, inl, inr}
 use borrow.Author.Tests.{eqb-true, eqb-false, eq-eqb, ne-eqb, ltb-true, ltb-false}
 use lib.Dec.{eqb, ltb}
+use mir.Val.{boolByte}
 
 -- two numbers are the same or not; one is below the other or not
 pub alike : (a b : ℕ) → (a ≡ b) ⊎ (a ≡ b → ⊥)
@@ -77,3 +78,8 @@ and-last e pa pb pc pd = rw (pa, pb, pc, pd)
 pub refuted : (a : Bool) → (a ≡ true → ⊥) → a ≡ false
 refuted true h = absurd (h refl)
 refuted false h = refl
+
+-- a test as a number
+pub byte-is : (t : Bool) → boolByte t ≡ cond t 1 0
+byte-is true = refl
+byte-is false = refl

@@ -1,17 +1,21 @@
--- The elements of a list that a test holds of: how many they are, in any order; the only one; and the first number below n.
+-- The elements of a list that a test holds of: how many they are, in any order; one alone; and the first number below n.
 use Prim.Native.Nat.{ℕ, zero, suc, _+_, _≤_, _<_}
 use mathlib.Core.Bool.{Bool, true, false, cond}
 use mathlib.Core.List.{List, [], _∷_, _++_}
 use mathlib.Core.Logic.{_⊎_, inl, inr}
-use mathlib.Core.Path.{_≡_, refl, sym, ap, _∙_}
+use mathlib.Core.Path.{_≡_, refl, sym, _∙_}
 use native.Mathlib.Omega.{arith}
 use lib.ListN.{length}
-use Rattle.base.specs.Lists.{keep, table, Reordered, unmoved, swapped, behind, further, Only}
+use Rattle.base.specs.Lists.{keep, table, Reordered, unmoved, swapped, behind, further}
 use Rattle.base.proofs.Lists.{length-reordered}
 
 no-elements : {A : Type 0} (xs : List A) → length xs ≡ 0 → xs ≡ []
 no-elements [] e = refl
 no-elements (x ∷ xs) e = absurd (omega (arith, e))
+
+one-element : {A : Type 0} (xs : List A) → length xs ≡ 1 → (x : A) × (xs ≡ x ∷ [])
+one-element [] e = absurd (omega (arith, e))
+one-element (x ∷ xs) e = (x, rw (no-elements xs (omega (arith, e))))
 
 alone : {A : Type 0} {xs ys : List A} → Reordered xs ys → length xs ≡ 1 → xs ≡ ys
 alone unmoved e = refl
@@ -83,31 +87,8 @@ module _ {A : Type 0} (p : A → Bool) where
   kept-alone r e = alone (keep-reordered r) e
 
   -- where it holds of one alone, that is kept
-  pub only-one : (xs : List A) → count xs ≡ 1 → (only : Only p xs) × (keep p xs ≡ only .one ∷ [])
-  unfolding keep
-  only-one [] e = absurd (omega (arith, e))
-  only-one (x ∷ xs) e = go (p x) refl e (only-one xs)
-    where
-      go : (t : Bool) → p x ≡ t → length (cond t (x ∷ keep p xs) (keep p xs)) ≡ 1
-          → (count xs ≡ 1 → (only : Only p xs) × (keep p xs ≡ only .one ∷ []))
-          → (only : Only p (x ∷ xs)) × (cond (p x) (x ∷ keep p xs) (keep p xs) ≡ only .one ∷ [])
-      go true h q rest =
-          let none = no-elements (keep p xs) (omega (arith, q)) in
-          (record { before = []; one = x; after = xs; list = refl; holds = h; none-before = refl; none-after = none }, rw (h, none))
-      go false h q rest =
-          let later = rest q in
-          let o = later .0 in (
-            record {
-              before = x ∷ o .before;
-              one = o .one;
-              after = o .after;
-              list = ap (λ (l : List A). x ∷ l) (o .list);
-              holds = o .holds;
-              none-before = rw h (o .none-before);
-              none-after = o .none-after;
-            },
-            rw h (later .1),
-          )
+  pub kept-one : (xs : List A) → count xs ≡ 1 → (x : A) × (keep p xs ≡ x ∷ [])
+  kept-one xs e = one-element (keep p xs) e
 
 -- A number below n is the first that the test holds of.
 pub record First (n : ℕ) (test : ℕ → Bool) (i : ℕ) : Type 0 where

@@ -11,7 +11,7 @@ use lib.Dec.{eqb, ltb}
 use lib.ListN.{length, getD, take, drop, set, replicate, length-append, length-drop, drop-of-length-le}
 use lib.Seq.{take-add, take-all, take-nil, drop-cons, drop-drop, length-take-le, getD-set-same, getD-set-other, set-out}
 use Rattle.base.specs.Lists.{all, flat, empty, begins, Reordered, unmoved, swapped, behind, further}
-use Rattle.base.proofs.Bools.{and-parts}
+use Rattle.base.proofs.Bools.{both, and-parts}
 
 -- where all elements are alike, and so is the default, every place gives the same
 pub getD-alike : {A : Type 0} (n i : ℕ) (a : A) → getD (replicate n a) i a ≡ a
@@ -112,6 +112,13 @@ module _ {A : Type 0} where
   all-middle p (x ∷ xs) y ys h = all-middle p xs y ys (and-parts (p x) (all p (xs ++ (y ∷ ys))) h .1)
 
   -- what every element is, it is also by a weaker test
+  -- the test holds of every element, wherever it stands
+  pub all-split : (p : A → Bool) (xs : List A) → ((before : List A) (x : A) (after : List A) → xs ≡ before ++ (x ∷ after) → p x ≡ true) → all p xs ≡ true
+  unfolding all
+  all-split p [] each = refl
+  all-split p (x ∷ xs) each =
+      both (each [] x xs refl) (all-split p xs (λ before y after e. each (x ∷ before) y after (ap (λ (l : List A). x ∷ l) e)))
+
   pub all-imply : (p q : A → Bool) → ((x : A) → p x ≡ true → q x ≡ true) → (xs : List A) → all p xs ≡ true → all q xs ≡ true
   unfolding all
   all-imply p q imply [] h = refl

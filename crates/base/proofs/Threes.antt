@@ -1,5 +1,5 @@
 -- Lists read three by three: their threes by place, and what loops over them know.
-use Prim.Native.Nat.{ℕ, suc, _+_, _*_, _≤_, _<_}
+use Prim.Native.Nat.{ℕ, suc, _+_, _*_, _%_, _≤_, _<_}
 use mathlib.Core.Bool.{Bool, true, false, _&&_, and-false}
 use mathlib.Core.List.{List, [], _∷_, _++_}
 use mathlib.Core.Path.{_≡_, refl, sym, ap, _∙_}
@@ -81,7 +81,7 @@ module _ {A : Type 0} (test : A → A → A → Bool) where
         ap (λ (made : List B). make x y z ∷ made) (threes-join front rest (and-parts (test x y z) (allThrees test front) e .1))
 
     -- as many as a third of the elements
-    threes-all : (xs : List A) → allThrees test xs ≡ true → 3 * length (byThree make xs) ≡ length xs
+    pub threes-all : (xs : List A) → allThrees test xs ≡ true → 3 * length (byThree make xs) ≡ length xs
     unfolding byThree allThrees
     threes-all [] e = refl
     threes-all (x ∷ []) e = absurd (never e refl)
@@ -154,6 +154,19 @@ module _ {A : Type 0} (test : A → A → A → Bool) where
             go false e =
                 let size = length-drop at xs in
                 rw (← w .tests, cut-short (drop at xs) (omega (arith, size, eqb-false at (length xs) e, w .inside)) (omega (arith, size)))
+
+-- any three, if none is left over
+abbrev pub anyThree : {A : Type 0} → A → A → A → Bool
+anyThree x y z = true
+
+pub whole-threes : {A : Type 0} (xs : List A) → eqb (length xs % 3) 0 ≡ allThrees anyThree xs
+unfolding allThrees
+whole-threes [] = refl
+whole-threes (x ∷ []) = refl
+whole-threes (x ∷ y ∷ []) = refl
+whole-threes (x ∷ y ∷ z ∷ xs) =
+    let same : length (x ∷ y ∷ z ∷ xs) % 3 ≡ length xs % 3 = omega arith in
+    ap (λ (n : ℕ). eqb n 0) same ∙ whole-threes xs
 
 -- What a loop that counts knows at a place: the test holds of `n` of what was made before it.
 module _ {A B : Type 0} (make : A → A → A → B) (p : B → Bool) (xs : List A) where

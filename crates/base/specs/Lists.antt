@@ -1,8 +1,7 @@
--- Functions on lists that the definitions of the other crates use, when two lists have the same elements, and when a test holds of one element alone.
+-- Functions on lists that the definitions of the other crates use, and when two lists have the same elements.
 use Prim.Native.Nat.{ℕ, zero, suc, _+_}
 use mathlib.Core.Bool.{Bool, true, false, cond, not, _&&_, _||_}
 use mathlib.Core.List.{List, [], _∷_, _++_}
-use mathlib.Core.Path.{_≡_}
 use lib.Dec.{eqb}
 use lib.ListN.{length, take, drop}
 
@@ -111,13 +110,3 @@ pub data Reordered {A : Type 0} : List A → List A → Type 0 where
   swapped : {x y : A} {xs : List A} → Reordered (x ∷ y ∷ xs) (y ∷ x ∷ xs)
   behind : {x : A} {xs ys : List A} → Reordered xs ys → Reordered (x ∷ xs) (x ∷ ys)
   further : {xs ys zs : List A} → Reordered xs ys → Reordered ys zs → Reordered xs zs
-
--- the test holds of one element of the list, and of none before or behind it
-pub record Only {A : Type 0} (test : A → Bool) (xs : List A) : Type 0 where
-  pub before : List A
-  pub one : A
-  pub after : List A
-  pub list : xs ≡ before ++ (one ∷ after)
-  pub holds : test one ≡ true
-  pub none-before : keep test before ≡ []
-  pub none-after : keep test after ≡ []

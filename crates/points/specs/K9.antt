@@ -23,7 +23,7 @@ use Rattle.rating.specs.declared.Premium.the-variants.{Of, Refused}
 use Rattle.points.specs.Points.{opposed}
 use Rattle.points.specs.K1.{book, begun, assigned, minus, amount, part, several}
 
--- a band, several alike, one of each of the ages below n, and the four bands of the request's page
+-- a band, one for each of the ages below n, and four that are good
 abbrev band : ℕ → ℕ → ℕ → List ℕ
 band first last thousandths = first ∷ last ∷ thousandths ∷ []
 
@@ -39,7 +39,7 @@ abbrev priced : ℕ → List ℕ → ℕ → List ℤ → Premium
 priced base bands age numbers = ageAnswer book assigned (pos base) bands age numbers
 
 pub record Points : Type 0 where
-  -- The four bands of the request's page, not in the order of age: good; the factor of each age at both ends of its band.
+  -- Four bands, not in the order of age: good; the factor of each age at both ends of its band.
   pub good : checkedTable four ≡ Good
   pub first-age : factorAnswer four 0 ≡ factor.Of 2500
   pub age-17 : factorAnswer four 17 ≡ factor.Of 2500

@@ -12,8 +12,11 @@ use mir.ValLaws.{toZ-ofZ}
 use Rattle.base.proofs.Signed.{product-within, small-fits}
 use Rattle.bands.specs.Bands.{maxFactor, factorAnswer}
 use Rattle.bands.specs.declared.Factor.{Factor}
-use Rattle.rating.specs.Pricing.{maxBase, maxRunning, baseWithin, priceRefusal}
-use Rattle.rating.specs.Ages.{scaled, premiumBy, ageAnswer}
+use Rattle.book.specs.Numbers.{formulaOf}
+use Rattle.layout.specs.Layout.{held}
+use Rattle.session.specs.Outcomes.{accepted}
+use Rattle.rating.specs.Pricing.{maxBase, maxRunning, baseWithin, linesOf, priceRefusal}
+use Rattle.rating.specs.Ages.{scaled, agePremium, ageAnswer}
 use Rattle.rating.specs.declared.Premium.the-variants.{Refused}
 use Rattle.rating.proofs.PricingLaws.{rounded-size}
 use Rattle.rating.proofs.AnswerLaws.{base-most}
@@ -38,6 +41,6 @@ module _ (book session : List ℕ) (base : ℤ) (table : List ℕ) (age : ℕ) (
   age-refused n e h = rw (← e, ne-eqb n 0 h)
 
   pub age-answered : 0 ≡ priceRefusal book session base numbers → (answer : Factor) → answer ≡ factorAnswer table age
-      → premiumBy book session base numbers answer ≡ ageAnswer book session base table age numbers
+      → agePremium base (linesOf numbers) answer (accepted (held (formulaOf book) session)) ≡ ageAnswer book session base table age numbers
   unfolding ageAnswer
   age-answered e answer is = rw (← e, is)

@@ -16,14 +16,14 @@ use Rattle.run.specs.Trail.{isTrue}
 use Rattle.run.specs.Run.{inConflict}
 use Rattle.layout.specs.Layout.{held}
 use Rattle.validation.specs.Validation.{passes}
-use Rattle.rating.specs.Pricing.{maxAmount, maxRunning, linesOf, areLines, changeWithin, lineWithin, listWithin, baseWithin, applied, limited, stepped, pricedBy, openLines, offered, ratesWithin, premiumAnswer}
+use Rattle.rating.specs.Pricing.{maxAmount, maxRunning, linesOf, areLines, changeWithin, lineWithin, listWithin, baseWithin, applied, limited, stepped, pricedBy, openLines, offered, ratesWithin, premiumAnswer, lineOpen}
 use Rattle.rating.specs.Statement.{isAmount, amountsOnly}
 use Rattle.rating.specs.declared.Change.{Change}
 use Rattle.rating.specs.declared.Change.the-variants.{Amount, Thousandths}
 use Rattle.rating.specs.declared.Priced.{Priced}
 use Rattle.rating.specs.declared.Priced.the-variants.{At}
 use Rattle.rating.specs.declared.RateLine.{RateLine}
-use Rattle.rating.proofs.PricingLaws.{amount-small, limited-within, lineOpen, list-parts, line-parts}
+use Rattle.rating.proofs.PricingLaws.{amount-small, limited-within, list-parts, line-parts}
 use Rattle.rating.proofs.AnswerLaws.{base-most}
 use Rattle.rating.proofs.Refusals.{said, state, open-count, said-is}
 

@@ -31,13 +31,13 @@ use Rattle.session.specs.declared.Assigned.the-variants as assigned
 use Rattle.session.proofs.PassedLaws.{well, facts, own-refusal}
 use Rattle.session.proofs.LookupLaws.{shows-open}
 use Rattle.session.proofs.Statements.{statement-2}
-use Rattle.rating.specs.Pricing.{maxRunning, linesOf, lineWithin, listWithin, pricedBy, openLines, oneIfOpen, offered, premiumOf, ratesWithin, runRefusal, priceRefusal, premiumAnswer}
+use Rattle.rating.specs.Pricing.{maxRunning, linesOf, lineWithin, listWithin, pricedBy, openLines, oneIfOpen, offered, premiumOf, ratesWithin, runRefusal, priceRefusal, premiumAnswer, lineOpen}
 use Rattle.rating.specs.Statement.{after, Bounded}
 use Rattle.rating.specs.declared.Priced.{Priced}
 use Rattle.rating.specs.declared.Priced.the-variants.{At, Beyond}
 use Rattle.rating.specs.declared.RateLine.{RateLine}
 use Rattle.rating.specs.declared.Premium.the-variants.{Of}
-use Rattle.rating.proofs.PricingLaws.{Small, at-small, priced-small, priced-append, priced-beyond, lineOpen, open-first, priced-alike, open-alike, list-parts, line-parts}
+use Rattle.rating.proofs.PricingLaws.{Small, at-small, priced-small, priced-append, priced-beyond, open-first, priced-alike, open-alike, list-parts, line-parts}
 use Rattle.rating.proofs.AnswerLaws.{base-small, accepted-price, answered}
 
 open-is-neither : (a b : Bool) → (_≡_ {A = ℕ} (cond (not (a || b)) 1 0) 1) ↔ ((a ≡ false) × (b ≡ false))

@@ -15,7 +15,7 @@ use Rattle.base.proofs.Signed.{size-negated, product-within}
 use Rattle.base.proofs.Threes.{ranged-parts}
 use Rattle.book.specs.Formula.{literalWithin}
 use Rattle.run.specs.Trail.{opposite}
-use Rattle.rating.specs.Pricing.{maxLines, maxAmount, maxThousandths, maxRunning, lineOf, linesOf, ofKind, areLines, changeWithin, lineWithin, listWithin, rounded, applied, limited, stepped, pricedBy, isOpen, openLines, oneIfOpen}
+use Rattle.rating.specs.Pricing.{maxLines, maxAmount, maxThousandths, maxRunning, lineOf, linesOf, ofKind, areLines, changeWithin, lineWithin, listWithin, rounded, applied, limited, stepped, pricedBy, openLines, oneIfOpen, lineOpen}
 use Rattle.rating.specs.declared.Change.the-variants.{Amount, Thousandths}
 use Rattle.rating.specs.declared.Priced.{Priced}
 use Rattle.rating.specs.declared.Priced.the-variants.{At, Beyond}
@@ -98,13 +98,9 @@ module _ (holds : ℕ → Bool) where
   unmet (At x) line e = rw e
   unmet Beyond line e = refl
 
-  -- the test of a line that `openLines` counts by
-  abbrev pub lineOpen : RateLine → Bool
-  lineOpen line = isOpen holds (line .literal)
-
   pub open-first : (line : RateLine) (lines : List RateLine) → openLines holds (line ∷ lines) ≡ oneIfOpen holds (line .literal) + openLines holds lines
   unfolding openLines
-  open-first line lines = count-first lineOpen line lines
+  open-first line lines = count-first (lineOpen holds) line lines
 
 -- tests that agree come to the same
 module _ (f g : ℕ → Bool) (agree : (l : ℕ) → f l ≡ g l) where

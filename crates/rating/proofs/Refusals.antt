@@ -15,7 +15,7 @@ use Rattle.layout.specs.Layout.{held}
 use Rattle.validation.specs.Validation.{passes, callRefusal}
 use Rattle.session.specs.Outcomes.{outcome}
 use Rattle.rating.specs.Pricing.{maxRunning, linesOf, ratesWithin, applied, limited, stepped, pricedBy, openLines, offered, premiumOf, priceRefusal, premiumAnswer}
-use Rattle.rating.specs.Statement.{GoesBeyond, RefusedWhere}
+use Rattle.rating.specs.Statement.{GoesBeyond, RefusedEarly, RefusedWhere}
 use Rattle.rating.specs.declared.Priced.{Priced}
 use Rattle.rating.specs.declared.Priced.the-variants.{At, Beyond}
 use Rattle.rating.specs.declared.RateLine.{RateLine}
@@ -88,7 +88,7 @@ tells true true false true rest m e = inr (inr (inr (inr ((refl, refl), refl, re
 
 -- Each number exactly where it is due, where what is left has higher ones:
 module _ (w p c r : Bool) (rest : Premium) (late : r ≡ true → (m : ℕ) → rest ≡ Refused m → 19 < m) where
-  pub said-11 : (said w p c r rest ≡ Refused 11) ↔ (w ≡ false)
+  said-11 : (said w p c r rest ≡ Refused 11) ↔ (w ≡ false)
   said-11 = (λ e. go (tells w p c r rest 11 e), λ k. rw k)
     where
       go : Told w p c r rest 11 → w ≡ false
@@ -98,7 +98,7 @@ module _ (w p c r : Bool) (rest : Premium) (late : r ≡ true → (m : ℕ) → 
       go (inr (inr (inr (inl k)))) = absurd (omega (arith, k .0))
       go (inr (inr (inr (inr k)))) = absurd (omega (arith, late (k .2) 11 (k .3)))
 
-  pub said-12 : (said w p c r rest ≡ Refused 12) ↔ ((w ≡ true) × (p ≡ false))
+  said-12 : (said w p c r rest ≡ Refused 12) ↔ ((w ≡ true) × (p ≡ false))
   said-12 = (λ e. go (tells w p c r rest 12 e), λ k. rw (k .0, k .1))
     where
       go : Told w p c r rest 12 → (w ≡ true) × (p ≡ false)
@@ -108,7 +108,7 @@ module _ (w p c r : Bool) (rest : Premium) (late : r ≡ true → (m : ℕ) → 
       go (inr (inr (inr (inl k)))) = absurd (omega (arith, k .0))
       go (inr (inr (inr (inr k)))) = absurd (omega (arith, late (k .2) 12 (k .3)))
 
-  pub said-14 : (said w p c r rest ≡ Refused 14) ↔ (((w ≡ true) × (p ≡ true)) × (c ≡ true))
+  said-14 : (said w p c r rest ≡ Refused 14) ↔ (((w ≡ true) × (p ≡ true)) × (c ≡ true))
   said-14 = (λ e. go (tells w p c r rest 14 e), λ k. rw (k .0 .0, k .0 .1, k .1))
     where
       go : Told w p c r rest 14 → ((w ≡ true) × (p ≡ true)) × (c ≡ true)
@@ -147,6 +147,19 @@ module _ (w p c r : Bool) (rest : Premium) (late : r ≡ true → (m : ℕ) → 
       go (inr (inr (inl k))) = inr (inr (inl (k .0)))
       go (inr (inr (inr (inl k)))) = inr (inr (inr (inl (k .0))))
       go (inr (inr (inr (inr k)))) = inr (inr (inr (inr (k .2, k .3))))
+
+-- so of an answer on a book and a session
+pub refused-early : (book session : List ℕ) (answer : Premium) (r : Bool) (rest : Premium) → (r ≡ true → (m : ℕ) → rest ≡ Refused m → 19 < m)
+    → answer ≡ said (wellFormed book) (passes (formulaOf book) session) (inConflict (held (formulaOf book) session)) r rest → RefusedEarly book session answer
+refused-early book session answer r rest late is =
+    let w = wellFormed book in
+    let p = passes (formulaOf book) session in
+    let c = inConflict (held (formulaOf book) session) in
+    record {
+      book-fault = rw is (said-11 w p c r rest late);
+      session-fault = rw is (said-12 w p c r rest late);
+      conflict = rw is (said-14 w p c r rest late);
+    }
 
 -- what the lines come to is refused by 20 alone, and exactly where the running amount goes beyond its limit
 pub offered-number : (n : ℕ) (state : Priced) (m : ℕ) → offered n state ≡ Refused m → m ≡ 20
@@ -199,9 +212,7 @@ module _ (book session : List ℕ) (base : ℤ) (numbers : List ℤ) where
       let late : r ≡ true → (m : ℕ) → rest ≡ Refused m → 19 < m = λ t m e. omega (arith, offered-number _ state m e) in
       let beyond = offered-20 (isTrue (run .trail)) base (linesOf numbers) (open-count book session numbers) in
       record {
-        book-fault = rw said-is (said-11 w p c r rest late);
-        session-fault = rw said-is (said-12 w p c r rest late);
-        conflict = rw said-is (said-14 w p c r rest late);
+        early = refused-early book session (premiumAnswer book session base numbers) r rest late said-is;
         range = rw said-is (said-19 w p c r rest late);
         limit =
             let both = said-late w p c r rest late 20 (lit< tt) in (

@@ -16,12 +16,12 @@ use Rattle.run.specs.Trail.{Entry, isTrue}
 use Rattle.run.specs.Run.{inConflict}
 use Rattle.layout.specs.Layout.{held}
 use Rattle.validation.specs.Validation.{passes}
-use Rattle.rating.specs.Pricing.{maxLines, literalOf, lineOf, linesOf, isKind, ofKind, areLines, lineWithin, listWithin, pricedBy, openLines, oneIfOpen, offered, ratesWithin, premiumAnswer}
+use Rattle.rating.specs.Pricing.{maxLines, literalOf, lineOf, linesOf, isKind, ofKind, areLines, lineWithin, listWithin, pricedBy, openLines, oneIfOpen, offered, ratesWithin, premiumAnswer, lineOpen}
 use Rattle.rating.specs.Statement.{withOpen}
 use Rattle.rating.specs.declared.Priced.{Priced}
 use Rattle.rating.specs.declared.Priced.the-variants.{At, Beyond}
 use Rattle.rating.specs.declared.RateLine.{RateLine}
-use Rattle.rating.proofs.PricingLaws.{priced-append, unmet, lineOpen, open-first}
+use Rattle.rating.proofs.PricingLaws.{priced-append, unmet, open-first}
 use Rattle.rating.proofs.Refusals.{said, state, open-count, said-is}
 
 -- A line that does not apply, in a list that is otherwise the same:

@@ -8,14 +8,13 @@ use lib.Dec.{leb}
 use lib.IntN.{ℤ}
 use Rattle.bands.specs.Bands.{maxAge, bandsOf, tableWithin, factorAt}
 use Rattle.bands.specs.Statement.{GoodTable, LowestFault}
-use Rattle.book.specs.Numbers.{wellFormed, formulaOf}
+use Rattle.book.specs.Numbers.{formulaOf}
 use Rattle.run.specs.Trail.{isTrue}
 use Rattle.run.specs.Run.{Run, inConflict}
 use Rattle.layout.specs.Layout.{held}
-use Rattle.validation.specs.Validation.{passes}
 use Rattle.rating.specs.Pricing.{linesOf, ratesWithin}
 use Rattle.rating.specs.Ages.{scaled, ageAnswer}
-use Rattle.rating.specs.Statement.{GoesBeyond, Passes}
+use Rattle.rating.specs.Statement.{GoesBeyond, Passes, RefusedEarly}
 use Rattle.rating.specs.declared.Premium.{Premium}
 use Rattle.rating.specs.declared.Premium.the-variants.{Refused}
 
@@ -27,6 +26,10 @@ neutral = 0 ∷ maxAge ∷ 1000 ∷ []
 abbrev pub ageBase : ℤ → List ℕ → ℕ → ℤ
 ageBase base table age = scaled base (factorAt age (bandsOf table))
 
+-- The base, the whole list, the age and the table are within their ranges.
+abbrev pub allWithin : List ℕ → ℤ → List ℕ → ℕ → List ℤ → Bool
+allWithin book base table age numbers = ratesWithin book base numbers && (leb age maxAge && tableWithin table)
+
 module _ (book session : List ℕ) (base : ℤ) (table : List ℕ) (age : ℕ) (numbers : List ℤ) where
   abbrev run : Run
   run = held (formulaOf book) session
@@ -34,18 +37,15 @@ module _ (book session : List ℕ) (base : ℤ) (table : List ℕ) (age : ℕ) (
   abbrev answer : Premium
   answer = ageAnswer book session base table age numbers
 
-  -- The base, the whole list, the age and the table are within their ranges.
-  abbrev pub allWithin : Bool
-  allWithin = ratesWithin book base numbers && (leb age maxAge && tableWithin table)
+  abbrev within : Bool
+  within = allWithin book base table age numbers
 
   -- Each refusal number exactly where it is due: 11, 12, 14, 19, then 25 or 26, then 20.
   pub record AgeRefusedWhere : Type 0 where
-    pub book-fault : (answer ≡ Refused 11) ↔ (wellFormed book ≡ false)
-    pub session-fault : (answer ≡ Refused 12) ↔ ((wellFormed book ≡ true) × (passes (formulaOf book) session ≡ false))
-    pub conflict : (answer ≡ Refused 14) ↔ (Passes book session × (inConflict run ≡ true))
-    pub range : (answer ≡ Refused 19) ↔ (Passes book session × (inConflict run ≡ false) × (allWithin ≡ false))
-    pub in-none : (answer ≡ Refused 25) ↔ (Passes book session × (inConflict run ≡ false) × (allWithin ≡ true) × ((lowest : ℕ) × LowestFault table 25 lowest))
-    pub in-several : (answer ≡ Refused 26) ↔ (Passes book session × (inConflict run ≡ false) × (allWithin ≡ true) × ((lowest : ℕ) × LowestFault table 26 lowest))
+    pub early : RefusedEarly book session answer
+    pub range : (answer ≡ Refused 19) ↔ (Passes book session × (inConflict run ≡ false) × (within ≡ false))
+    pub in-none : (answer ≡ Refused 25) ↔ (Passes book session × (inConflict run ≡ false) × (within ≡ true) × ((lowest : ℕ) × LowestFault table 25 lowest))
+    pub in-several : (answer ≡ Refused 26) ↔ (Passes book session × (inConflict run ≡ false) × (within ≡ true) × ((lowest : ℕ) × LowestFault table 26 lowest))
     pub limit : (answer ≡ Refused 20)
-        ↔ (Passes book session × (inConflict run ≡ false) × (allWithin ≡ true) × (GoodTable table × GoesBeyond (isTrue (run .trail)) (ageBase base table age) (linesOf numbers)))
+        ↔ (Passes book session × (inConflict run ≡ false) × (within ≡ true) × (GoodTable table × GoesBeyond (isTrue (run .trail)) (ageBase base table age) (linesOf numbers)))
     pub no-other : (n : ℕ) → answer ≡ Refused n → (n ≡ 11) ⊎ (n ≡ 12) ⊎ (n ≡ 14) ⊎ (n ≡ 19) ⊎ (n ≡ 20) ⊎ (n ≡ 25) ⊎ (n ≡ 26)

@@ -1,16 +1,16 @@
 -- Request K9 in a price: a table of age bands scales the base by the factor of the customer's age, before the first line.
 use Prim.Native.Nat.{ℕ}
-use mathlib.Core.Bool.{cond}
 use mathlib.Core.List.{List}
-use lib.Dec.{eqb}
 use lib.IntN.{ℤ, pos, _*ℤ_}
 use Rattle.book.specs.Numbers.{formulaOf}
+use Rattle.run.specs.Run.{Run}
 use Rattle.layout.specs.Layout.{held}
-use Rattle.session.specs.Outcomes.{accepted}
+use Rattle.session.specs.Outcomes.{Outcome, refused, accepted, outcome}
 use Rattle.bands.specs.Bands.{factorAnswer}
 use Rattle.bands.specs.declared.Factor.{Factor}
 use Rattle.bands.specs.declared.Factor.the-variants as factor
 use Rattle.rating.specs.Pricing.{linesOf, rounded, premiumOf, priceRefusal}
+use Rattle.rating.specs.declared.RateLine.{RateLine}
 use Rattle.rating.specs.declared.Premium.{Premium}
 use Rattle.rating.specs.declared.Premium.the-variants.{Refused}
 
@@ -18,14 +18,13 @@ use Rattle.rating.specs.declared.Premium.the-variants.{Refused}
 unfoldable pub scaled : ℤ → ℕ → ℤ
 scaled base thousandths = rounded (base *ℤ pos thousandths)
 
-module _ (book session : List ℕ) (base : ℤ) where
-  -- by the table's answer: its refusal, or the lines applied from the scaled base on
-  abbrev pub premiumBy : List ℤ → Factor → Premium
-  premiumBy numbers (factor.Of thousandths) = premiumOf (scaled base thousandths) (linesOf numbers) (accepted (held (formulaOf book) session))
-  premiumBy numbers (factor.Refused number) = Refused number
+-- The answer: a refusal that comes before the table; what table and age are refused by; else the lines applied from the scaled base on.
+abbrev pub agePremium : ℤ → List RateLine → Factor → Outcome Run → Premium
+agePremium base lines answer (refused number) = Refused number
+agePremium base lines (factor.Refused number) (accepted run) = Refused number
+agePremium base lines (factor.Of thousandths) (accepted run) = premiumOf (scaled base thousandths) lines (accepted run)
 
-  -- First what is refused without a table: 11, 12, 14, 19; then what table and age are refused by: 19, then 25 or 26; 20 is checked at its line.
-  unfoldable pub ageAnswer : List ℕ → ℕ → List ℤ → Premium
-  ageAnswer table age numbers =
-      let refusal = priceRefusal book session base numbers in
-      cond (eqb refusal 0) (premiumBy numbers (factorAnswer table age)) (Refused refusal)
+-- So what is refused without a table comes first, 11, 12, 14, 19; then 19, and 25 or 26, for table and age; 20 is checked at its line.
+unfoldable pub ageAnswer : List ℕ → List ℕ → ℤ → List ℕ → ℕ → List ℤ → Premium
+ageAnswer book session base table age numbers =
+    agePremium base (linesOf numbers) (factorAnswer table age) (outcome (priceRefusal book session base numbers) (held (formulaOf book) session))

@@ -108,8 +108,11 @@ abbrev pub isOpen : (ℕ → Bool) → ℕ → Bool
 isOpen holds l = not (holds l || holds (opposite l))
 
 -- The number of lines whose variable is open, each line by itself; of one line it is 1 or 0.
+abbrev pub lineOpen : (ℕ → Bool) → RateLine → Bool
+lineOpen holds line = isOpen holds (line .literal)
+
 unfoldable pub openLines : (ℕ → Bool) → List RateLine → ℕ
-openLines holds lines = length (keep (λ (line : RateLine). isOpen holds (line .literal)) lines)
+openLines holds lines = length (keep (lineOpen holds) lines)
 
 abbrev pub oneIfOpen : (ℕ → Bool) → ℕ → ℕ
 oneIfOpen holds l = cond (isOpen holds l) 1 0

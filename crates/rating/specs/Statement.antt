@@ -58,6 +58,12 @@ amountsOnly lines = all (λ (line : RateLine). isAmount (line .change)) lines
 abbrev pub Passes : List ℕ → List ℕ → Type 0
 Passes book session = (wellFormed book ≡ true) × (passes (formulaOf book) session ≡ true)
 
+-- Of an answer: 11, 12 and 14 exactly where they are due.
+pub record RefusedEarly (book session : List ℕ) (answer : Premium) : Type 0 where
+  pub book-fault : (answer ≡ Refused 11) ↔ (wellFormed book ≡ false)
+  pub session-fault : (answer ≡ Refused 12) ↔ ((wellFormed book ≡ true) × (passes (formulaOf book) session ≡ false))
+  pub conflict : (answer ≡ Refused 14) ↔ (Passes book session × (inConflict (held (formulaOf book) session) ≡ true))
+
 module _ (book session : List ℕ) (base : ℤ) (numbers : List ℤ) where
   abbrev run : Run
   run = held (formulaOf book) session
@@ -82,9 +88,7 @@ module _ (book session : List ℕ) (base : ℤ) (numbers : List ℤ) where
 
   -- Each refusal number exactly where it is due.
   pub record RefusedWhere : Type 0 where
-    pub book-fault : (answer ≡ Refused 11) ↔ (wellFormed book ≡ false)
-    pub session-fault : (answer ≡ Refused 12) ↔ ((wellFormed book ≡ true) × (passes (formulaOf book) session ≡ false))
-    pub conflict : (answer ≡ Refused 14) ↔ (Passes book session × (inConflict run ≡ true))
+    pub early : RefusedEarly book session answer
     pub range : (answer ≡ Refused 19) ↔ (Passes book session × (inConflict run ≡ false) × (ratesWithin book base numbers ≡ false))
     pub limit : (answer ≡ Refused 20) ↔ (Passes book session × (inConflict run ≡ false) × (ratesWithin book base numbers ≡ true) × GoesBeyond (isTrue (run .trail)) base lines)
     pub no-other : (n : ℕ) → answer ≡ Refused n → (n ≡ 11) ⊎ (n ≡ 12) ⊎ (n ≡ 14) ⊎ (n ≡ 19) ⊎ (n ≡ 20)

@@ -1,13 +1,15 @@
 -- `holders` meets its contract. Assumes nothing.
 use Prim.Native.Nat.{_-_}
 use mathlib.Core.Bool.{Bool, cond}
-use mathlib.Core.Path.{ap, _∙_}
+use mathlib.Core.Path.{_≡_, ap, _∙_}
 use native.Mathlib.Omega.{arith}
 use borrow.Author.Needs.{needs}
 use lib.ListN.{length}
+use mir.Val.{boolByte}
+use Rattle.base.proofs.Bools.{byte-is}
+use Rattle.base.proofs.Counts.{one, one-most}
 use Rattle.base.proofs.Threes.{CountedBefore, counted-none, counted-more, counted-all}
 use Rattle.bands.specs.Bands.{bandOf, bandsOf, liesIn, bandsAt}
-use Rattle.bands.proofs.TableLaws.{byte-is, byte-most}
 use Rattle.bands.proofs.holders.Statement.{statement}
 use Rattle.bands.proofs.holders.Tie as tie
 
@@ -34,10 +36,14 @@ lies-in-requires c κs = search needs
 cast-held : tie.Need-cast-held Inv-loop μ-loop
 cast-held c = search needs
 
+-- what is counted more
+one-told : (c : tie.After-lies-in Inv-loop μ-loop) → boolByte (c .lies-in .result) ≡ one (liesIn (c .before .before .before .before .before .args .age)) (c .before .band-at .result)
+one-told c = byte-is (c .lies-in .result) ∙ ap (λ (t : Bool). cond t 1 0) (c .lies-in .ensures)
+
 add-held : tie.Need-add-held Inv-loop μ-loop
 add-held c =
     let at-loop = c .before .before .before in
-    record { fits = omega (arith, at-loop .loop .inv .few, at-loop .loop .inv .inside, byte-most (c .lies-in .result)) }
+    record { fits = omega (arith, at-loop .loop .inv .few, at-loop .loop .inv .inside, one-told c, one-most (liesIn (at-loop .before .before .args .age)) (c .before .band-at .result)) }
 
 add-at : tie.Need-add-at Inv-loop μ-loop
 add-at c = search needs
@@ -51,7 +57,7 @@ loop-again c =
     let read = c .before in
     let at-loop = read .before .before in
     counted-more bandOf _ _ (at-loop .loop .held) (at-loop .loop .at) (at-loop .loop .inv) (search needs) (read .band-at .result) (read .band-at .ensures) _
-    (byte-is (c .lies-in .result) ∙ ap (λ (t : Bool). cond t 1 0) (c .lies-in .ensures))
+    (one-told c)
 
 returns : tie.Need-returns Inv-loop μ-loop
 unfolding bandsAt bandsOf

@@ -15,11 +15,11 @@ use Rattle.run.specs.Trail.{Entry, isTrue}
 use Rattle.layout.specs.Values.{valueIn}
 use Rattle.layout.specs.declared.values.Value.the-variants.{Open, True, False}
 use Rattle.layout.proofs.ValueLaws.{value-open, value-true, value-false}
-use Rattle.rating.specs.Pricing.{maxLines, lineOf, linesOf, ofKind, areLines, changeWithin, lineWithin, listWithin, applied, limited, stepped, pricedBy, openLines, oneIfOpen}
+use Rattle.rating.specs.Pricing.{maxLines, lineOf, linesOf, ofKind, areLines, changeWithin, lineWithin, listWithin, applied, limited, stepped, pricedBy, openLines, oneIfOpen, lineOpen}
 use Rattle.rating.specs.declared.Priced.{Priced}
 use Rattle.rating.specs.declared.Priced.the-variants.{At, Beyond}
 use Rattle.rating.specs.declared.RateLine.{RateLine}
-use Rattle.rating.proofs.PricingLaws.{Small, stepped-small, lineOpen, list-parts, line-parts}
+use Rattle.rating.proofs.PricingLaws.{Small, stepped-small, list-parts, line-parts}
 
 -- a line that is told to apply, or not
 module _ (applies : Bool) where

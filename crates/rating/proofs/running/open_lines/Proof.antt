@@ -7,7 +7,7 @@ use Rattle.base.proofs.Counts.{one-most}
 use Rattle.book.specs.Numbers.{variablesOf, formulaOf}
 use Rattle.run.specs.Trail.{isTrue}
 use Rattle.layout.specs.Layout.{held}
-use Rattle.rating.proofs.PricingLaws.{lineOpen}
+use Rattle.rating.specs.Pricing.{lineOpen}
 use Rattle.rating.proofs.running.Laws.{OpenBefore, open-none, read-parts, open-more, open-all}
 use Rattle.rating.proofs.running.open_lines.Statement.{statement}
 use Rattle.rating.proofs.running.open_lines.Tie as tie
