@@ -75,7 +75,7 @@ static inline uint32_t tariff_good(uint64_t answer) { return answer == 0; }
 /* A table of age bands has three numbers for each band, the bands in any order: its first age, its last age, both in it, and its factor in thousandths. */
 #define TARIFF_BAND_NUMBERS 3
 
-/* The limits of a table: bands; years of an age; thousandths of a factor, which is at least 0. */
+/* The limits of a table: bands; years of an age; thousandths of a factor. */
 #define TARIFF_MOST_BANDS 64
 #define TARIFF_MOST_AGE 120
 #define TARIFF_MOST_FACTOR 5000
@@ -184,7 +184,7 @@ uint64_t tariff_price(const uint32_t *book, size_t book_length, const uint32_t *
 uint64_t tariff_check_bands(const uint32_t *table, size_t table_length, uint32_t *age);
 
 /* The premium as tariff_price gives it, from another start on: before the first line the base becomes base x factor of the customer's age / 1000, rounded to
- * the nearest cent, halves up. The range of the base is that of `base` as lent.
+ * the nearest cent, halves up. The range of the base is that of `base` as given.
  * Accepted: the number of lines whose feature is open. Writes the final amount to *amount.
  * Refuses: 11, 12; 14 in contradiction; then 19 as tariff_price does, and where `age` is over 120 or the table is false; then 25 or 26 where the table is not
  * good, whatever the age; then 20. */

@@ -35,7 +35,10 @@ inline uint64_t aged_19(const AgedFound& aged) { return aged.out_of_range() ? 19
 struct AgedRecipe {
     Recipe lines{};
     std::function<Checked(const AgedLending&)> checked = [](const AgedLending& lent) { return check_by_ages(lent.table); };
-    std::function<uint32_t(const Bands&, uint32_t age)> factor = TableRecipe{}.factor;
+    std::function<uint32_t(const Bands&, uint32_t age)> factor = [](const Bands& bands, uint32_t age) {
+        auto held = std::find_if(bands.begin(), bands.end(), [&](const Band& band) { return band.first <= age && age <= band.last; });
+        return held == bands.end() ? 0 : held->factor;
+    };
     std::function<bool(uint32_t age)> age = [](uint32_t age) { return age < 121; };
     std::function<Wide(Wide base, uint32_t factor)> start = [](Wide base, uint32_t factor) { return half_away()(base * factor); };
     std::function<Wide(Wide amount, uint32_t factor)> finish = [](Wide amount, uint32_t) { return amount; };
@@ -264,7 +267,7 @@ inline AgedMethod aged_left_as(void (*change)(AgedLending& lent)) {
 
 // The table with the band behind it.
 inline uint64_t price_behind(uint64_t answer, AgedLending& lent, const AgedLending& before) {
-    if (before.table.length % BAND != 0 || before.table.memory.size() < before.table.length + BAND + 2) return answer;
+    if (!before.table.goes_on()) return answer;
     AgedLending longer = before;
     longer.table.length += BAND;
     answer = for_age_by_library(longer);

@@ -58,10 +58,6 @@ private:
         return std::any_of(cover.begin() + age + 1, cover.end(), [=](int bands) { return several ? bands > 1 : bands == 0; });
     }
 
-    static bool is_sorted(const Bands& bands) {
-        return std::is_sorted(bands.begin(), bands.end(), [](const Band& a, const Band& b) { return a.first < b.first; });
-    }
-
     static std::vector<Kind> all_kinds() {
         using B = const Bands&;
         using A = const std::array<int, AGES>&;
@@ -72,8 +68,8 @@ private:
             is_good("1 band", [](B bands) { return bands.size() == 1; }),
             is_good("63 bands", [](B bands) { return bands.size() == 63; }),
             is_good("64 bands", [](B bands) { return bands.size() == 64; }),
-            is_good("not in the order of ages", [](B bands) { return !is_sorted(bands); }),
-            is_good("in it", [](B bands) { return bands.size() > 1 && is_sorted(bands); }),
+            is_good("not in the order of ages", [](B bands) { return !is_ascending(bands); }),
+            is_good("in it", [](B bands) { return bands.size() > 1 && is_ascending(bands); }),
             is_good("factor 5000", [](B bands) { return std::any_of(bands.begin(), bands.end(), [](O band) { return band.factor == 5000; }); }),
             is_good("factor 0", [](B bands) { return std::any_of(bands.begin(), bands.end(), [](O band) { return band.factor == 0; }); }),
             is_fault("25", 25, any),

@@ -1,9 +1,11 @@
 // Tables, and calls that price for an age, whose answers were worked out by hand: the values of K9's page, both sides of each limit, and the order of refusals.
 #pragma once
 #include <algorithm>
+#include <array>
 #include <cstddef>
 #include <cstdint>
 #include <initializer_list>
+#include <limits>
 #include <string>
 #include <utility>
 #include <vector>
@@ -93,10 +95,8 @@ inline WorkedTables cover_tables() {
         {"two overlaps", {{0, 20, 1}, {20, 90, 1}, {90, 120, 1}}, in_several(20)},
         {"age 3 alone left out", {{4, 120, 1}, {0, 2, 1}}, in_none(3)},
         {"age 5 alone", {{5, 5, 1000}}, in_none(0)},
-        {"all ages three times", all_ages(3), in_several(0)},
-        {"all ages 63 times", all_ages(63), in_several(0)},
         {"62 single ages", single_ages(62), {}},
-        {"single ages and a gap", joined({single_ages(62), {{0, 0, 0}}}), in_several(0)},
+        {"single ages, and age 0 again", joined({single_ages(62), {{0, 0, 0}}}), in_several(0)},
     };
 }
 
@@ -125,21 +125,29 @@ inline WorkedTables false_tables() {
 // The page's bands in every order, and where each is left out.
 inline WorkedTables ordered_tables() {
     WorkedTables list;
-    for (const Bands& bands : {four_bands(), Bands{{0, 17, 2500}, {18, 24, 1750}, {25, 64, 1000}, {65, 120, 1325}}})
-        for (size_t i = 0; i < bands.size(); i++)
-            for (size_t j = 0; j < bands.size(); j++) {
-                Bands swapped = bands, shorter = bands;
-                std::swap(swapped[i], swapped[j]);
-                list.push_back({"two exchanged", swapped, {}});
-                shorter.erase(shorter.begin() + static_cast<std::ptrdiff_t>(i));
-                if (j == 0) list.push_back({"one left out", shorter, in_none(bands[i].first)});
-            }
+    const Bands page = four_bands();
+    std::array<size_t, 4> order{0, 1, 2, 3};
+    do {
+        Bands bands;
+        for (size_t i : order) bands.push_back(page[i]);
+        list.push_back({"in some order", bands, {}});
+        const Band first = bands.front();
+        bands.erase(bands.begin());
+        list.push_back({"one left out", bands, in_none(first.first)});
+    } while (std::next_permutation(order.begin(), order.end()));
+    return list;
+}
+
+// Every age in so many bands, but for the numbers of the page.
+inline WorkedTables repeated_tables() {
+    WorkedTables list;
+    for (size_t times = 3; times < MAX_BANDS; times++) list.push_back({"all ages " + std::to_string(times) + " times", all_ages(times), in_several(0)});
     return list;
 }
 
 inline WorkedTables worked_tables() {
     WorkedTables all = page_tables();
-    for (const WorkedTables& more : {cover_tables(), false_tables(), ordered_tables()}) all.insert(all.end(), more.begin(), more.end());
+    for (const WorkedTables& more : {cover_tables(), repeated_tables(), false_tables(), ordered_tables()}) all.insert(all.end(), more.begin(), more.end());
     return all;
 }
 
@@ -228,7 +236,7 @@ inline AgedWorklist range_ages() {
     return list;
 }
 
-// Every table but the longest at 30, and at 121, on a base of 2,000 that no line changes.
+// Every table but the longest at 121, and those that are not good at 30 too, on a base of 2,000 that no line changes.
 inline AgedWorklist aged_tables() {
     AgedWorklist list;
     for (const WorkedTable& worked : worked_tables()) {
@@ -240,7 +248,7 @@ inline AgedWorklist aged_tables() {
     return list;
 }
 
-// The bands of good tables at their ends.
+// The bands of good tables at their ends, and some at each of their ages.
 inline AgedWorklist banded_ages() {
     AgedWorklist list;
     Bands backwards = single_ages(63);
@@ -248,6 +256,12 @@ inline AgedWorklist banded_ages() {
     for (const Bands& bands : {four_bands(), backwards, Bands{{0, 0, 1}, {1, 120, 2}}, Bands{{120, 120, 1}, {0, 119, 2}}})
         for (const Band& band : bands)
             for (uint32_t age : {band.first, band.last}) list.push_back({without_lines("an end of a band", 2000, 0, 2 * int64_t{band.factor}), bands, age});
+    Bands highest{{0, 57, 0}};
+    for (uint32_t age = 58; age <= MAX_AGE; age++) highest.push_back({age, age, age});
+    for (const Bands& bands : {highest, Bands{{0, 60, 3}, {61, 120, 4}}, Bands{{61, 120, 4}, {0, 60, 3}}})
+        for (const Band& band : bands)
+            for (uint32_t age = band.first; age <= band.last; age++)
+                list.push_back({without_lines("an age of a band", 2000, 0, 2 * int64_t{band.factor}), bands, age});
     return list;
 }
 
@@ -332,4 +346,14 @@ inline Due compare_worked(const AgedPosed& posed, const AgedMethod& price) {
     compare_number(due.answer, posed.worked.answer, "worked answer with table numbers", posed.lent.table.length);
     if (!due.refused()) compare_amount(due.amount, posed.worked.amount, "worked amount");
     return due;
+}
+
+// By the library: 1,000 cents come to as many cents as the factor has thousandths, for every factor.
+inline void check_factors(const AgedMethod& price) {
+    AgedPosed posed = for_age(pose(without_lines("every factor", 1000, 0)), {}, 30);
+    for (uint32_t factor = 0; factor <= MAX_FACTOR; factor++) {
+        posed.lent.table = table_of(all_ages(1, factor));
+        posed.worked.amount = factor;
+        compare_worked(posed, price);
+    }
 }

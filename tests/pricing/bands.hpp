@@ -34,7 +34,14 @@ struct LentTable {
         for (size_t i = 1; i + BAND <= length + 1; i += BAND) list.push_back({memory[i], memory[i + 1], memory[i + 2]});
         return list;
     }
+
+    // Whether the table is one of whole bands, and one more stands behind it.
+    bool goes_on() const { return length % BAND == 0 && memory.size() >= length + BAND + 2; }
 };
+
+inline bool is_ascending(const Bands& bands) {
+    return std::is_sorted(bands.begin(), bands.end(), [](const Band& a, const Band& b) { return a.first < b.first; });
+}
 
 // Behind the bands stand the others.
 inline LentTable table_of(const Bands& bands, const Bands& behind = {}) {

@@ -31,7 +31,9 @@ inline uint64_t answer_of(const Checked& checked) { return checked.is_false ? FA
 inline Checked compare_check(Checking lent, const Checker& check) {
     const Checking before = lent;
     Checked due = checked_of(lent.table);
-    compare_number(check(lent), answer_of(due), "answer with table numbers", lent.table.length);
+    uint64_t answer = check(lent);
+    compare_number(answer, answer_of(due), "answer with table numbers", lent.table.length);
+    compare_number(tariff_good(answer), due.is_good(), "tariff_good with table numbers", lent.table.length);
     compare_number(lent.age(), due.number == 0 ? before.age() : due.age, "age with table numbers", lent.table.length);
     for (size_t i : {0, 2}) compare_number(lent.ages[i], before.ages[i], "number beside the age", i);
     compare_memory(lent.table.memory, before.table.memory, "number of the table");

@@ -153,6 +153,7 @@ int test_ages(const std::string& motor) {
     const Calls<AgedMethod, AgedPosed> calls{"worked calls for an age", posed_ages(), compare_case, compare_row};
     const AgedMethod library = for_age_by_library;
     if (fails(calls, library, AGED)) return 1;
+    check_factors(library);
     tally.print();
     check(calls, library, changed_amounts<AgedPosed>, methods::wrong_aged(), methods::right_aged());
     return 0;
@@ -178,7 +179,11 @@ int test_relations(const std::string& motor) {
 int test(const std::string& motor) {
     check_roundings();
     check_scaling();
-    return test_prices(motor) + test_tables() + test_ages(motor) + test_relations(motor) == 0 ? 0 : 1;
+    int failed = test_prices(motor);
+    failed += test_tables();
+    failed += test_ages(motor);
+    failed += test_relations(motor);
+    return failed == 0 ? 0 : 1;
 }
 
 }  // namespace

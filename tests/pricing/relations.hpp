@@ -5,6 +5,7 @@
 #include <string>
 #include <vector>
 
+#include "../support/random.hpp"
 #include "aged.hpp"
 #include "aged_methods.hpp"
 #include "aged_worked.hpp"

@@ -26,10 +26,6 @@ inline Checker checker(const TableCheck& check) {
     };
 }
 
-inline bool is_ascending(const Bands& bands) {
-    return std::is_sorted(bands.begin(), bands.end(), [](const Band& a, const Band& b) { return a.first < b.first; });
-}
-
 // Wrong in the range of a band and in how many there are.
 inline TableList wrong_table_ranges() {
     using Length = bool (*)(size_t numbers);
@@ -160,7 +156,7 @@ inline AgeFault last_alike(const AgeFaults& faults) {
 
 // The table with the band behind it.
 inline uint64_t check_behind(uint64_t answer, Checking& lent, const Checking& before) {
-    if (before.table.length % BAND != 0 || before.table.memory.size() < before.table.length + BAND + 2) return answer;
+    if (!before.table.goes_on()) return answer;
     Checking longer = before;
     longer.table.length += BAND;
     answer = check_by_library(longer);

@@ -1,4 +1,4 @@
-// A second way to check a table and to find a factor, in parts that can be exchanged for others: for each age the bands are gone through.
+// A second way to check a table, in parts that can be exchanged for others: for each age the bands are gone through.
 #pragma once
 #include <algorithm>
 #include <cstddef>
@@ -29,10 +29,6 @@ struct TableRecipe {
     uint32_t lowest = 0, highest = 120;  // of the ages that are looked at
     std::function<AgeFault(const AgeFaults&)> named = [](const AgeFaults& faults) { return faults.front(); };
     bool false_first = true;
-    std::function<uint32_t(const Bands&, uint32_t age)> factor = [](const Bands& bands, uint32_t age) {
-        auto held = std::find_if(bands.begin(), bands.end(), [&](const Band& band) { return band.first <= age && age <= band.last; });
-        return held == bands.end() ? 0 : held->factor;
-    };
 };
 
 inline AgeFaults faults_of(const TableRecipe& recipe, const Bands& bands) {

@@ -1,4 +1,4 @@
--- What holds of every premium by age: each refusal where it is due, the neutral table, faults at every age, any order of the bands; and what holds of every premium.
+-- What holds of every premium by age: each refusal where it is due, the neutral table, faults at every age, any order of the bands; and three of the theorems on every premium.
 use Prim.Native.Nat.{ℕ, suc, _+_, _*_, _/_, _≤_, _<_}
 use mathlib.Core.Bool.{Bool, true, false, cond, _&&_}
 use mathlib.Core.List.{List, [], _∷_}
@@ -194,7 +194,7 @@ own-base base table good age h =
     let own = own-factor table good age h in
     (own .0, own .1, rw (own .2) (rounded-nearest (base *ℤ pos (own .0 .factor))))
 
--- Where it is a base, or neither it nor the given one is, the answer is the price from it on.
+-- Where it is within the range of a base exactly if the given one is, the answer is the price from it on.
 pub age-is-price : (book session : List ℕ) (base : ℤ) (table : List ℕ) → GoodTable table → (age : ℕ) → age ≤ maxAge → baseWithin (ageBase base table age) ≡ baseWithin base
     → (numbers : List ℤ) → ageAnswer book session base table age numbers ≡ premiumAnswer book session (ageBase base table age) numbers
 unfolding ageAnswer premiumAnswer priceRefusal

@@ -1,5 +1,6 @@
 -- `price_for_age` meets its contract. Assumes nothing.
 use mathlib.Core.Path.{_≡_, sym, ap, _∙_}
+use native.Mathlib.Omega.{arith}
 use borrow.Author.Needs.{needs}
 use lib.IntN.{ℤ}
 use mir.Syntax.{w64}
@@ -62,7 +63,9 @@ known : (c : tie.After-known-told) → Accepted (start c .args .book .now) (star
 known c = accepted-price _ _ _ _ (none c)
 
 scaled-requires : tie.Need-scaled-requires
-scaled-requires c κs = (rw (base-is (start c)) (known c .base-right), factor-most _ _ _ (factor-told c))
+scaled-requires c κs =
+    let few = factor-most _ _ _ (factor-told c) in
+    (rw (base-is (start c)) (known c .base-right), omega (arith, few))
 
 -- the start as it is handed on
 start-is : (c : tie.After-scaled) → toZ w64 (ofZ w64 (c .scaled .result)) ≡ scaled (start (c .before) .args .base) (c .before .before .factor .given .0 .0)
