@@ -63,7 +63,7 @@ module _ (book session : List ℕ) (base : ℤ) (table : List ℕ) (age : ℕ) (
   within = allWithin book base table age numbers
 
   age-said : ageAnswer book session base table age numbers
-      ≡ said (wellFormed book) (passes (formulaOf book) session) (inConflict run) (within) rest
+      ≡ said (wellFormed book) (passes (formulaOf book) session) (inConflict run) within rest
   unfolding ageAnswer priceRefusal callRefusal factorAnswer
   age-said = go (wellFormed book) (passes (formulaOf book) session) (inConflict run) (ratesWithin book base numbers) (leb age maxAge) (tableWithin table) refl
     where
@@ -107,7 +107,7 @@ module _ (book session : List ℕ) (base : ℤ) (table : List ℕ) (age : ℕ) (
   fault-where : (m : ℕ) → 20 < m → (ageAnswer book session base table age numbers ≡ Refused m)
       ↔ (Passes book session × (inConflict run ≡ false) × (within ≡ true) × ((lowest : ℕ) × LowestFault table m lowest))
   fault-where m h =
-      let exactly = said-late (wellFormed book) (passes (formulaOf book) session) (inConflict run) (within) rest late m (omega arith) in (
+      let exactly = said-late (wellFormed book) (passes (formulaOf book) session) (inConflict run) within rest late m (omega arith) in (
         λ e. let k = exactly .0 (sym age-said ∙ e) in (k .0, k .1, k .2, go (left (checkedTable table) refl (ranges (k .2) .2) m (k .3))),
         λ k. age-said ∙ exactly .1 (k .0, k .1, k .2, ap by (fault-exactly table m (k .3 .0) .1 (k .3 .1))),
       )
@@ -119,7 +119,7 @@ module _ (book session : List ℕ) (base : ℤ) (table : List ℕ) (age : ℕ) (
   limit-where : (ageAnswer book session base table age numbers ≡ Refused 20)
       ↔ (Passes book session × (inConflict run ≡ false) × (within ≡ true) × (GoodTable table × GoesBeyond (isTrue (run .trail)) (ageBase base table age) (linesOf numbers)))
   limit-where =
-      let exactly = said-late (wellFormed book) (passes (formulaOf book) session) (inConflict run) (within) rest late 20 (lit< tt) in (
+      let exactly = said-late (wellFormed book) (passes (formulaOf book) session) (inConflict run) within rest late 20 (lit< tt) in (
         λ e.
             let k = exactly .0 (sym age-said ∙ e) in
             let good = go (left (checkedTable table) refl (ranges (k .2) .2) 20 (k .3)) in
