@@ -1,4 +1,6 @@
 // Age bands (request K9): a table of bands that the insurer edits, the lowest age at fault in it, and the factor of an age.
+#![tactic(auto)]
+
 ghost use Rattle.std.specs.Prelude.{◌≡◌, ◌∷◌, ◌<◌, ◌+◌, length, drop};
 ghost use Rattle.bands.specs.Bands as bands;
 ghost use Rattle.bands.specs.Bands.{bands_of, band_within, table_within, lies_in, checked_table, factor_at, factor_answer};
@@ -11,7 +13,7 @@ const MAX_AGE: u32 = 120;
 const MAX_FACTOR: u32 = 5000;
 
 // A band: the ages from a first one to a last one, and their factor in thousandths.
-#[derive(Drop)]
+#[derive(Clone, Copy)]
 pub struct Band {
     first: u32,
     last: u32,
@@ -19,7 +21,7 @@ pub struct Band {
 }
 
 // What the checker reports of a table: it is good; something in it is outside its range (the paper's false); or the lowest age at fault, with its number.
-#[derive(Drop)]
+#[derive(Clone, Copy)]
 pub enum Checked {
     Good,
     Malformed,
@@ -27,7 +29,7 @@ pub enum Checked {
 }
 
 // The factor of an age in thousandths, or the refusal number of a call that prices.
-#[derive(Drop)]
+#[derive(Clone, Copy)]
 pub enum Factor {
     Of(u32),
     Refused(u32),

@@ -88,6 +88,7 @@ module _ {A : Type 0} where
   -- and of each that is one of them
   pub all_of : (p : A → Bool) (xs : List A) → all p xs ≡ true → {x : A} → Memᴰ x xs → p x ≡ true
   unfolding all
+  all_of p [] h m = elim m [ ]
   all_of p (y ∷ xs) h (Memᴰ.head e) = rw e (and_parts (p y) (all p xs) h).0
   all_of p (y ∷ xs) h (Memᴰ.tail m) = all_of p xs (and_parts (p y) (all p xs) h).1 m
 

@@ -79,6 +79,10 @@ map_back f g [] h = refl
 map_back f g (x ∷ xs) h =
     ap₂ ◌∷◌ (h x (omega (arith, times-same x xs))) (map_back f g xs (λ y k. h y (omega (arith, times_more y x xs))))
 
+-- a number in front that is the same
+times_front : (x y : ℕ) (xs : List ℕ) → x ≡ y → times x (y ∷ xs) ≡ suc (times x xs)
+times_front x y xs e = rw e (times-same y xs)
+
 module _ (f g : ℕ → ℕ) (back : (x : ℕ) → g (f x) ≡ x) where
   pub times-map_least : (y : ℕ) (xs : List ℕ) → times y (map f xs) ≤ times (g y) xs
   unfolding times
@@ -88,8 +92,7 @@ module _ (f g : ℕ → ℕ) (back : (x : ℕ) → g (f x) ≡ x) where
       go : (b : Bool) → eqb y (f x) ≡ b → times y (map f xs) ≤ times (g y) xs → cond b (suc (times y (map f xs))) (times y (map f xs)) ≤ times (g y) (x ∷ xs)
       go true e h =
           let same : g y ≡ x = ap g (eqb-true y (f x) e) ∙ back x in
-          let t : times (g y) (x ∷ xs) ≡ suc (times (g y) xs) = rw same (times-same x xs) in
-          omega arith
+          omega (arith, times_front (g y) x xs same)
       go false e h = omega (arith, times_more (g y) x xs)
 
   pub times-map_is : (y : ℕ) (xs : List ℕ) → 0 < times y (map f xs) → f (g y) ≡ y
@@ -109,7 +112,7 @@ times-map_in f x (y ∷ xs) h = go (eqb x y) refl h (times-map_in f x xs)
   where
     go : (b : Bool) → eqb x y ≡ b → 0 < cond b (suc (times x xs)) (times x xs) → (0 < times x xs → 0 < times (f x) (map f xs))
         → 0 < times (f x) (f y ∷ map f xs)
-    go true e k rest = rw (eqb-true x y e) (omega (arith, times-same (f y) (map f xs)))
+    go true e k rest = omega (arith, times_front (f x) (f y) (map f xs) (ap f (eqb-true x y e)))
     go false e k rest = let z = rest k in omega (arith, times_more (f x) (f y) (map f xs))
 
 -- the value of what stands in a list stands among the values, and each value is of something that stands there

@@ -28,21 +28,21 @@ module _ (numbers : List ℕ) (base n : ℕ) (long : base + n ≤ length numbers
   length_part : length (take n (drop base numbers)) ≡ n
   length_part = length-take-le n (drop base numbers) (rw length-drop (omega arith))
 
-  get_d_part : (i : ℕ) → i < n → get_or (take n (drop base numbers)) i 0 ≡ get_or numbers (base + i) 0
-  get_d_part i h = get_or-take n (drop base numbers) i 0 h ∙ get_or-drop base numbers i 0
+  get_or_part : (i : ℕ) → i < n → get_or (take n (drop base numbers)) i 0 ≡ get_or numbers (base + i) 0
+  get_or_part i h = get_or-take n (drop base numbers) i 0 h ∙ get_or-drop base numbers i 0
 
   pub part_list : (list : List ℕ) → length list ≡ n → ((i : ℕ) → i < n → get_or numbers (base + i) 0 ≡ get_or list i 0)
       → take n (drop base numbers) ≡ list
   part_list list same at =
       ext_get_or 0 (take n (drop base numbers)) list (length_part ∙ sym same)
-      (λ i h. let k : i < n = omega (arith, length_part) in get_d_part i k ∙ at i k)
+      (λ i h. let k : i < n = omega (arith, length_part) in get_or_part i k ∙ at i k)
 
   -- it is a table exactly if each number is the function's value
   pub part_table : (f : ℕ → ℕ) → ((i : ℕ) → i < n → get_or numbers (base + i) 0 ≡ f i) → take n (drop base numbers) ≡ table n f
   part_table f at = part_list (table n f) (length-table n f) (λ i h. at i h ∙ sym (get_or-table n f i 0 h))
 
   pub table_part : (f : ℕ → ℕ) → take n (drop base numbers) ≡ table n f → (i : ℕ) → i < n → get_or numbers (base + i) 0 ≡ f i
-  table_part f e i h = sym (get_d_part i h) ∙ ap (λ (l : List ℕ). get_or l i 0) e ∙ get_or-table n f i 0 h
+  table_part f e i h = sym (get_or_part i h) ∙ ap (λ (l : List ℕ). get_or l i 0) e ∙ get_or-table n f i 0 h
 
 -- the same for a table and what lies behind it: k numbers from `base` on, of which the first n are the table's and the m from `next` on the rest
 module _ (numbers : List ℕ) (base n m k next : ℕ) (f : ℕ → ℕ) (rest : List ℕ)

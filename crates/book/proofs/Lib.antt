@@ -2,7 +2,7 @@
 pub mod Accepted
 pub mod AsReadLaws
 pub mod DecimalLaws
-pub mod Digits
+pub mod DigitLaws
 pub mod FaultLaws
 pub mod LeastFault
 pub mod NumberLaws

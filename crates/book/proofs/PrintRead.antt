@@ -29,7 +29,7 @@ use Rattle.book.proofs.WalkAccepts.{clause_tokens, tokens_for, clauses_walk}
 use Rattle.book.proofs.parse.Laws.{within_limits}
 use Rattle.book.proofs.DecimalLaws.{token_plain}
 use Rattle.book.proofs.PrintedText.{spelled_clauses, printed_within}
-use Rattle.book.proofs.Digits.{number_printed, printed_unsigned, digit_not_blank, digits_begin}
+use Rattle.book.proofs.DigitLaws.{number_printed, printed_unsigned, digit_not_blank, digits_begin}
 
 -- a word: bytes that are no blanks, and at least one
 record PlainWord (w : List ℕ) : Type 0 where

@@ -15,7 +15,7 @@ use Rattle.book.specs.Formula.{Formula, max_variables, max_literals, literal_wit
 use Rattle.book.specs.Text.{is_digit}
 use Rattle.book.specs.Printer.{digits, print_number, print_literal, print_clause, spelled, print_text}
 use Rattle.book.proofs.DecimalLaws.{digit_bounds}
-use Rattle.book.proofs.Digits.{number_printed}
+use Rattle.book.proofs.DigitLaws.{number_printed}
 use Rattle.book.proofs.SoundLaws.{literal_parts, FormulaParts, formula_parts}
 use Rattle.book.proofs.WrittenLaws.{written_clause, written_parts, spelled_written}
 

@@ -1,4 +1,6 @@
 // The calls of book, session, chapters, quote, bands, rating and packed for C: slices as a pointer and a length, answers as one number.
+#![tactic(auto)]
+
 ghost use Rattle.std.specs.Prelude.{◌≡◌, length, set};
 ghost use Rattle.book.specs.Reading.{read_text};
 ghost use Rattle.book.specs.Answer.{read_answer, numbers_after};

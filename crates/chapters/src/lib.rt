@@ -1,4 +1,6 @@
 // Checks by chapter (request K6): the counts of a session added up by the chapters that the book's clauses are filed in.
+#![tactic(auto)]
+
 ghost use Rattle.std.specs.Prelude.{◌≡◌, true, ◌++◌, ℕ, ◌≤◌, length, drop};
 ghost use Rattle.base.specs.Lists.{table};
 ghost use Rattle.book.specs.Formula.{max_clauses};
@@ -13,7 +15,7 @@ pub const CHAPTERS: usize = 32;
 const MAX_CHAPTER: u32 = 31;
 
 // What a filing answers: whether the totals are written, or the refusal number.
-#[derive(Drop)]
+#[derive(Clone, Copy)]
 pub enum Filing {
     Filed(bool),
     Refused(u32),

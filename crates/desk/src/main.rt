@@ -1,4 +1,6 @@
 // Reads the rule book `tariff.cnf`, then a script from standard input, and prints an answer to each line.
+#![tactic(auto)]
+
 ghost use Rattle.std.specs.Prelude.{ℕ, ◌≡◌, List};
 ghost use Rattle.dialog.specs.Program.{Lends, holding, PartTaken};
 
@@ -8,7 +10,7 @@ use layout::offsets::MAX_SESSION;
 use libc::{STDIN_FILENO, STDOUT_FILENO};
 
 // What was read of the rule book.
-#[derive(Drop)]
+#[derive(Clone, Copy)]
 enum Text {
     Bytes(usize),
     Failed,
@@ -16,7 +18,7 @@ enum Text {
 
 // What became of a part of the script: it is answered, and so many bytes of a line that has begun are kept; or there was none; or the program
 // is to stop.
-#[derive(Drop)]
+#[derive(Clone, Copy)]
 enum Part {
     Kept(usize),
     Ended,

@@ -1,4 +1,6 @@
 // The dialog of the script program: bytes of a script in, bytes of the answers out.
+#![tactic(auto)]
+
 mod answers;
 mod lines;
 
@@ -15,14 +17,14 @@ pub const MAX_ANSWER: usize = 4096;
 pub const MAX_LINE: usize = 12;
 
 // What became of a start: how many bytes were written, and whether the script is to be answered.
-#[derive(Drop)]
+#[derive(Clone, Copy)]
 pub enum Started {
     Open(usize),
     Refused(usize),
 }
 
 // How many bytes of the script were used, how many bytes of the line that has begun are kept, how many bytes of an answer were written.
-#[derive(Drop)]
+#[derive(Clone, Copy)]
 pub struct Taken {
     pub used: usize,
     pub kept: usize,

@@ -1,4 +1,6 @@
 // The steps of a run on the numbers of a session that are known to hold it: opening, an accepted decision, an accepted backtrack, a fixing.
+#![tactic(auto)]
+
 mod lists;
 mod opening;
 mod propagation;

@@ -6,7 +6,7 @@ ghost use Rattle.engine.specs.Inner.Lists.{Begun, KeptOn, Standing, TakenOut, Pu
 use layout::offsets::{head_slot, link_slot};
 
 // Where a walk along a watch list stands: the node that is next, 0 at the end, and the slot that holds it.
-#[derive(Drop)]
+#[derive(Clone, Copy)]
 pub struct Walk {
     pub node: u32,
     pub slot: usize,

@@ -9,7 +9,7 @@ ghost use Rattle.engine.specs.Inner.Scan.{ScanReady, scanned_in};
 use layout::values::{Value, value_of};
 
 // What a scan finds: a position, or nothing; and the checks that it made.
-#[derive(Drop)]
+#[derive(Clone, Copy)]
 pub enum Scan {
     Found(usize, u32),
     Nothing(u32),

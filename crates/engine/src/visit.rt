@@ -18,7 +18,7 @@ use layout::offsets::{
 use layout::values::{Value, clause_start, literal_value, parity, wide};
 
 // What a visit leaves: the walk behind the clause, or a conflict.
-#[derive(Drop)]
+#[derive(Clone, Copy)]
 pub enum Visit {
     GoOn(Walk),
     Conflict,

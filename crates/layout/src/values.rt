@@ -9,7 +9,7 @@ ghost use Rattle.run.specs.Trail as trails;
 use crate::offsets::{levels_at, value_slot};
 
 // The value of a literal.
-#[derive(Drop)]
+#[derive(Clone, Copy)]
 pub enum Value {
     Open,
     True,

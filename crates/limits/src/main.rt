@@ -1,4 +1,6 @@
 // Executes the limits of document 01 on the code: each line of standard input is a trial, and prints one line, held to the stored `stdout`.
+#![tactic(auto)]
+
 mod lines;
 mod sessions;
 mod steps;

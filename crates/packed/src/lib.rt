@@ -1,4 +1,6 @@
 // Packed decimal for policy hosts (request K8): fields of 1 to 7 bytes, and quote records of up to three fields behind a bit map.
+#![tactic(auto)]
+
 mod fields;
 mod records;
 
@@ -12,21 +14,21 @@ use records::{put_part, record_length, record_refusal, stands, values_of};
 const MAX_BYTES: usize = 7;
 
 // What writing answers: how many bytes are written, or the refusal number.
-#[derive(Drop)]
+#[derive(Clone, Copy)]
 pub enum Written {
     Bytes(u32),
     Refused(u32),
 }
 
 // What reading a field answers: its value, or the refusal number.
-#[derive(Drop)]
+#[derive(Clone, Copy)]
 pub enum Field {
     Value(i64),
     Refused(u32),
 }
 
 // What reading a quote record answers: its map and its values, 0 where the bit does not stand, or the refusal number.
-#[derive(Drop)]
+#[derive(Clone, Copy)]
 pub enum QuoteRecord {
     Of {
         map: u8,
@@ -38,7 +40,7 @@ pub enum QuoteRecord {
 }
 
 // The number that digits write, or that a nibble among them is no digit.
-#[derive(Drop)]
+#[derive(Clone, Copy)]
 enum Digits {
     Number(u64),
     Bad,

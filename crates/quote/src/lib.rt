@@ -1,4 +1,6 @@
 // Told beforehand (request K11): how many numbers a session on a book needs, and how many checks a script on it costs at most.
+#![tactic(auto)]
+
 ghost use Rattle.std.specs.Prelude.{◌≡◌};
 ghost use Rattle.script.specs.Script.{line_of};
 ghost use Rattle.quote.specs.Quote.{is_back, back_lines, quote_answer};
@@ -9,7 +11,7 @@ use layout::ceiling::worst;
 const MAX_BACK_LINES: usize = 1000000;
 
 // What a quote tells: the session's length, W, how many lines of the form `b k` the script has, and the quoted ceiling; or the refusal number.
-#[derive(Drop)]
+#[derive(Clone, Copy)]
 pub enum Quote {
     Of {
         length: u32,

@@ -1,4 +1,6 @@
 // Premium in cents (requests K1 and K9): a rate list is applied to what is assigned (the paper's settled) in a session, from a base on that age bands may scale.
+#![tactic(auto)]
+
 mod cents;
 mod lines;
 mod running;
@@ -22,28 +24,28 @@ use signed::{product, size_of};
 const MAX_BASE: u64 = 1000000000;
 
 // What a line does to the running amount: it adds an amount in cents, or a change in thousandths of it.
-#[derive(Drop)]
+#[derive(Clone, Copy)]
 enum Change {
     Amount(i32),
     Thousandths(i32),
 }
 
 // A line of a rate list: where its literal is true, it applies.
-#[derive(Drop)]
+#[derive(Clone, Copy)]
 struct RateLine {
     literal: u32,
     change: Change,
 }
 
 // The running amount in cents, or that it went beyond its limit after a line.
-#[derive(Drop)]
+#[derive(Clone, Copy)]
 enum Priced {
     At(i64),
     Beyond,
 }
 
 // What a call that prices answers: the final amount in cents and the number of lines whose variable is open, or the refusal number.
-#[derive(Drop)]
+#[derive(Clone, Copy)]
 pub enum Premium {
     Of { amount: i64, open_lines: u32 },
     Refused(u32),

@@ -1,4 +1,6 @@
 // The script program's lines: one line in, one answer line out, as bytes.
+#![tactic(auto)]
+
 mod writing;
 
 ghost use Rattle.std.specs.Prelude.{◌≡◌, length};
@@ -10,7 +12,7 @@ ghost use Rattle.script.specs.Answers.{implied_line, clause_line, back_line, ref
 use crate::writing::{put, put_all, put_cause, put_listed, put_number, wide};
 
 // What a line of the script asks for: a decision of a literal, or a backtrack.
-#[derive(Drop)]
+#[derive(Clone, Copy)]
 pub enum Line {
     Choose(u32),
     Back(u32),
@@ -18,7 +20,7 @@ pub enum Line {
 }
 
 // The call that a line answers, if it propagates.
-#[derive(Drop)]
+#[derive(Clone, Copy)]
 pub enum Cause {
     Opening,
     Decision(u32),

@@ -1,4 +1,6 @@
 // The calls of a trial by their names, and what they answer, for `limits`. Each function answers how many literals of the trail are to be listed behind.
+#![tactic(auto)]
+
 pub mod answers;
 mod filing;
 mod quoting;

@@ -1,4 +1,6 @@
 // Test equipment, no part of the product: rows of trials, and trials of texts, for the program `limits`.
+#![tactic(auto)]
+
 pub mod build;
 pub mod damage;
 pub mod lists;

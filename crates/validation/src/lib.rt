@@ -1,4 +1,6 @@
 // The validation (the paper's examination) of a lent session, on any numbers.
+#![tactic(auto)]
+
 mod cells;
 mod conflict;
 mod fixpoint;
