@@ -37,15 +37,15 @@ returns-then-progress-eq0 c =
     so_far_short c.loop-next.invariant _ (stepped _ c.in-Close.is) c.if-progress-eq0.true
 
 pub slice_bounds-clause-end : goal.slice_bounds-clause-end
-slice_bounds-clause-end c = sym (opened_is c.before.before.before.before.before.before.before.before.loop.invariant)
+slice_bounds-clause-end c = sym (opened_is c.loop-next.invariant)
 
 pub put_clause-end-requires : goal.put_clause-end-requires
 put_clause-end-requires c =
-    record { clause_value = c.before.before.before.before.before.before.before.before.before.before.before.loop.invariant.markable; marked = next_unmarked c.before.before.before.before.before.before.before.before.before.before.before.loop.invariant; out_len = (c.before.before.before.before.before.before.before.before.before.before.before.loop.invariant.written.long, (end_within c.before.before.before.before.before.before.before.before.before.before.before.loop.invariant c.requires.2).1) }
+    record { clause_value = c.loop-next.invariant.markable; marked = next_unmarked c.loop-next.invariant; out_len = (c.loop-next.invariant.written.long, (end_within c.loop-next.invariant c.requires.2).1) }
 
 pub overflow_cast-numbers : goal.overflow_cast-numbers
 overflow_cast-numbers c =
-    omega (arith, put_within c.before.before.before.before.before.before.before.before.before.before.before.before.before.loop.invariant c.requires.2 _ c.put_clause-end.ensures.value)
+    omega (arith, put_within c.loop-next.invariant c.requires.2 _ c.put_clause-end.ensures.value)
 
 pub loop-next-smaller-in-Close : goal.loop-next-smaller-in-Close
 loop-next-smaller-in-Close c =

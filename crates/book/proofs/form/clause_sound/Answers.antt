@@ -39,15 +39,18 @@ mark-requires c = omega arith
 
 pub returns-then-mark : goal.returns-then-mark
 returns-then-mark c =
-    record { value = sym
+    record {
+      value = sym
           (refuse_repeated _ _ _ _ _
           c.wide-literal.result
           c.loop-i.invariant.1
           (omega arith)
           c.wide-literal.ensures.value
           (omega arith)
-          (sym c.mark.ensures.value ∙ c.if-mark.true)); bounded = rw c.mark.ensures.marks_after
-          (marked_more _ _ _ (c.wide-literal.result / 2) (omega arith) c.loop-i.invariant.1.marked).bounded }
+          (sym c.mark.ensures.value ∙ c.if-mark.true));
+      bounded = rw c.mark.ensures.marks_after
+          (marked_more _ _ _ (c.wide-literal.result / 2) (omega arith) c.loop-i.invariant.1.marked).bounded;
+    }
 
 pub overflow_add-i : goal.overflow_add-i
 overflow_add-i c = omega arith
@@ -56,24 +59,26 @@ pub loop-i-smaller : goal.loop-i-smaller
 loop-i-smaller c = omega arith
 
 pub loop-i-preserved : goal.loop-i-preserved
-loop-i-preserved c =
-    (
-      omega arith,
-      rw c.mark.ensures.marks_after
-          (passed_more _ _ _ _ _
-          c.wide-literal.result
-          c.loop-i.invariant.1
-          (omega arith)
-          c.wide-literal.ensures.value
-          (omega arith)
-          (omega arith)
-          (omega arith)
-          (sym c.mark.ensures.value ∙ c.if-mark.false)),
-    )
+loop-i-preserved c = (
+  omega arith,
+  rw c.mark.ensures.marks_after
+      (passed_more _ _ _ _ _
+      c.wide-literal.result
+      c.loop-i.invariant.1
+      (omega arith)
+      c.wide-literal.ensures.value
+      (omega arith)
+      (omega arith)
+      (omega arith)
+      (sym c.mark.ensures.value ∙ c.if-mark.false)),
+)
 
 pub returns : goal.returns
-returns c = record { value = sym
+returns c = record {
+  value = sym
       (passed_all _ _ _ _ _
       c.loop-i.invariant.1
       (omega arith)
-      (omega arith)); bounded = c.loop-i.invariant.1.marked.bounded }
+      (omega arith));
+  bounded = c.loop-i.invariant.1.marked.bounded;
+}

@@ -68,7 +68,7 @@ offset_bounds-book-start c =
     let begins : clauses-of + 4 + c.wide.result ≡ clause_start (book-of) (clause-of) = omega arith in
     let ends : clauses-of + 4 + c.wide-in-loop-c.result ≡ clause_start (book-of) (clause-of + 1) = let same : 4 + clause-of ≡ 3 + (clause-of + 1) = omega arith in
     let read = c.wide-in-loop-c.ensures.value ∙ ap (λ (i : ℕ). get_or (book-of) i 0) same in
-    omega (arith, read, c.requires.??.1) in
+    omega (arith, read, c.requires) in
     let inside : (c.wide.result ≤ c.wide-in-loop-c.result) × (clauses-of + 4 + c.wide-in-loop-c.result ≤ length (book-of)) = let bounds = clause_inside _ c.requires.parted (clause-of) _ _ (omega arith) (begins) (ends) in
     (omega (arith, bounds), bounds.1) in
     omega (arith, inside)
@@ -81,7 +81,7 @@ slice_bounds-clause_sound-count c =
     let begins : clauses-of + 4 + c.wide.result ≡ clause_start (book-of) (clause-of) = omega arith in
     let ends : clauses-of + 4 + c.wide-in-loop-c.result ≡ clause_start (book-of) (clause-of + 1) = let same : 4 + clause-of ≡ 3 + (clause-of + 1) = omega arith in
     let read = c.wide-in-loop-c.ensures.value ∙ ap (λ (i : ℕ). get_or (book-of) i 0) same in
-    omega (arith, read, c.requires.??.1) in
+    omega (arith, read, c.requires) in
     let inside : (c.wide.result ≤ c.wide-in-loop-c.result) × (clauses-of + 4 + c.wide-in-loop-c.result ≤ length (book-of)) = let bounds = clause_inside _ c.requires.parted (clause-of) _ _ (omega arith) (begins) (ends) in
     (omega (arith, bounds), bounds.1) in
     omega (arith, inside)
@@ -94,7 +94,7 @@ slice_bounds-clause_sound-start c =
     let begins : clauses-of + 4 + c.wide.result ≡ clause_start (book-of) (clause-of) = omega arith in
     let ends : clauses-of + 4 + c.wide-in-loop-c.result ≡ clause_start (book-of) (clause-of + 1) = let same : 4 + clause-of ≡ 3 + (clause-of + 1) = omega arith in
     let read = c.wide-in-loop-c.ensures.value ∙ ap (λ (i : ℕ). get_or (book-of) i 0) same in
-    omega (arith, read, c.requires.??.1) in
+    omega (arith, read, c.requires) in
     let inside : (c.wide.result ≤ c.wide-in-loop-c.result) × (clauses-of + 4 + c.wide-in-loop-c.result ≤ length (book-of)) = let bounds = clause_inside _ c.requires.parted (clause-of) _ _ (omega arith) (begins) (ends) in
     (omega (arith, bounds), bounds.1) in
     omega (arith, inside)
@@ -107,7 +107,7 @@ slice_bounds-clause_sound-end c =
     let begins : clauses-of + 4 + c.wide.result ≡ clause_start (book-of) (clause-of) = omega arith in
     let ends : clauses-of + 4 + c.wide-in-loop-c.result ≡ clause_start (book-of) (clause-of + 1) = let same : 4 + clause-of ≡ 3 + (clause-of + 1) = omega arith in
     let read = c.wide-in-loop-c.ensures.value ∙ ap (λ (i : ℕ). get_or (book-of) i 0) same in
-    omega (arith, read, c.requires.??.1) in
+    omega (arith, read, c.requires) in
     let inside : (c.wide.result ≤ c.wide-in-loop-c.result) × (clauses-of + 4 + c.wide-in-loop-c.result ≤ length (book-of)) = let bounds = clause_inside _ c.requires.parted (clause-of) _ _ (omega arith) (begins) (ends) in
     (omega (arith, bounds), bounds.1) in
     omega (arith, inside)
@@ -123,7 +123,7 @@ returns-then-not-clause_sound c =
     let begins : clauses-of + 4 + c.wide.result ≡ clause_start (book-of) (clause-of) = omega arith in
     let ends : clauses-of + 4 + c.wide-in-loop-c.result ≡ clause_start (book-of) (clause-of + 1) = let same : 4 + clause-of ≡ 3 + (clause-of + 1) = omega arith in
     let read = c.wide-in-loop-c.ensures.value ∙ ap (λ (i : ℕ). get_or (book-of) i 0) same in
-    omega (arith, read, c.requires.??.1) in
+    omega (arith, read, c.requires) in
     let clause-answer : c.clause_sound.result ≡ sound_clause c.args.variables (clause_at (book-of) (clause-of)) = c.clause_sound.ensures.value
     ∙ ap
     (sound_clause c.args.variables)
@@ -152,12 +152,11 @@ loop-c-preserved c =
     let begins : clauses-of + 4 + c.wide.result ≡ clause_start (book-of) (clause-of) = omega arith in
     let ends : clauses-of + 4 + c.wide-in-loop-c.result ≡ clause_start (book-of) (clause-of + 1) = let same : 4 + clause-of ≡ 3 + (clause-of + 1) = omega arith in
     let read = c.wide-in-loop-c.ensures.value ∙ ap (λ (i : ℕ). get_or (book-of) i 0) same in
-    omega (arith, read, c.requires.??.1) in
+    omega (arith, read, c.requires) in
     let clause-answer : c.clause_sound.result ≡ sound_clause c.args.variables (clause_at (book-of) (clause-of)) = c.clause_sound.ensures.value
     ∙ ap
     (sound_clause c.args.variables)
-    (clause_between _ (clause-of) _ _ (begins) (ends)) in
-    (
+    (clause_between _ (clause-of) _ _ (begins) (ends)) in (
       omega arith,
       omega arith,
       c.clause_sound.ensures.bounded,

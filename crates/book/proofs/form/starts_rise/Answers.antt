@@ -46,18 +46,17 @@ pub loop-c-smaller : goal.loop-c-smaller
 loop-c-smaller c = omega arith
 
 pub loop-c-preserved : goal.loop-c-preserved
-loop-c-preserved c =
-    (
-      omega arith,
-      sym
-          (rising_more
-          c.args.book.now
-          c.loop-c.c
-          c.args.clauses
-          (omega arith)
-          (omega arith))
-          ∙ c.loop-c.invariant.1,
-    )
+loop-c-preserved c = (
+  omega arith,
+  sym
+      (rising_more
+      c.args.book.now
+      c.loop-c.c
+      c.args.clauses
+      (omega arith)
+      (omega arith))
+      ∙ c.loop-c.invariant.1,
+)
 
 pub returns : goal.returns
 returns c =

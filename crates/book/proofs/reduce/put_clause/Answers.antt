@@ -8,6 +8,7 @@ use lib.ListN.{length}
 use Rattle.book.specs.Formula.{max_book}
 use Rattle.book.proofs.reduce.ClauseLaws.{put_none, put_short, variable_small, put_repeated, put_both_ways, put_new, put_all}
 use Rattle.book.proofs.reduce.put_clause.Goals as goal
+use Rattle.book.proofs.reduce.put_clause.Goals.{then-mark+else-not-holds, else-mark}
 
 pub loop-i-init : goal.loop-i-init
 loop-i-init c =
@@ -47,10 +48,8 @@ holds-requires c = tt
 
 pub returns-then-not-holds : goal.returns-then-not-holds
 returns-then-not-holds c =
-    rw c.mark.ensures.marks_after
-    (put_both_ways c.loop-i.invariant c.wide.result (search rules) c.wide.ensures.value
-    (sym c.mark.ensures.value ∙ c.if-mark.true)
-    (sym c.holds.ensures ∙ not-true _ c.if-not-holds.true-raw))
+    let said = put_both_ways c.loop-i.invariant c.wide.result (search rules) c.wide.ensures.value (sym c.mark.ensures.value ∙ c.if-mark.true) (sym c.holds.ensures ∙ not-true _ c.if-not-holds.true-raw) in
+    record { value = said.0; out_after = said.1.0; out_len_2 = rw c.mark.ensures.marks_after said.1.1 }
 
 pub offset_bounds-out-end : goal.offset_bounds-out-end
 offset_bounds-out-end c =
@@ -69,16 +68,16 @@ overflow_add-end c =
 
 pub loop-i-preserved : goal.loop-i-preserved
 loop-i-preserved c =
-    ⊎_elim
-    (λ w.
-    rw (c.mark.ensures.marks_after, w.6, w.7)
-    (put_repeated c.loop-i.invariant c.wide.result (search rules) c.wide.ensures.value
-    (sym w.4.ensures ∙ not-false _ w.5.left)))
-    (λ w.
-    rw (c.mark.ensures.marks_after, w.1, w.2)
-    (put_new c.loop-i.invariant c.wide.result (search rules) c.wide.ensures.value
-    (sym c.mark.ensures.value ∙ w.0.left)))
-    c.if-mark.branch
+    elim c.if-mark.branch [
+      | then-mark+else-not-holds w ↦
+          rw (c.mark.ensures.marks_after, w.out-is, w.end-is)
+          (put_repeated c.loop-i.invariant c.wide.result (search rules) c.wide.ensures.value
+          (sym w.holds.ensures ∙ w.if-not-holds.false))
+      | else-mark w ↦
+          rw (c.mark.ensures.marks_after, w.out-is, w.end-is)
+          (put_new c.loop-i.invariant c.wide.result (search rules) c.wide.ensures.value
+          (sym c.mark.ensures.value ∙ w.if-mark.false))
+    ]
 
 pub returns : goal.returns
 returns c = record { value = (put_all c.loop-i.invariant (search rules)).0; out_after = (put_all c.loop-i.invariant (search rules)).1.0; out_len_2 = (put_all c.loop-i.invariant (search rules)).1.1 }
