@@ -1,3 +1,2 @@
 // The reference run of document 01 and its theorems; this crate has no code.
 #![tactic(auto)]
-
