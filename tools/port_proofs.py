@@ -116,6 +116,7 @@ class Fn:
             if s == 'requires' and self.fname in CL: r = clause_path(r, CL[self.fname][1])
             return [s.replace('-', '_')] + r
         e = self.step(p, s) if p else None
+        if not e: e = self.step(place, s)
         if not e: return ['before'] * n + rest
         new = e[2][1]; r = rest[1:]
         if r: r = [{'inv': 'invariant', 'taken': 'true', 'left': 'false', 'kept': 'auto', 'last': 'new', 'came': 'branch', 'typed': 'type_inv'}.get(r[0], r[0])] + r[1:]

@@ -7,7 +7,7 @@ ghost use Rattle.engine.specs.Inner.Trail.{unassign_nums, Last, Cutting, assign_
 ghost use Rattle.run.specs.Trail as trails;
 
 use layout::offsets::{DECISIONS, LENGTH, TRAIL, levels_at, value_slot};
-use layout::values::{level_before_lem, parity, wide};
+use layout::values::{level_before, parity, wide};
 
 // Puts a literal on the trail, at a level.
 pub(crate) fn assign(session: &mut [u32], variables: usize, literal: u32, level: u32)
@@ -30,7 +30,7 @@ fn unassign(session: &mut [u32], variables: usize)
     let last = session[LENGTH] - 1;
     let at = wide(last);
     let literal = session[TRAIL + at];
-    session[DECISIONS] = level_before_lem(session, variables, at);
+    session[DECISIONS] = level_before(session, variables, at);
     session[LENGTH] = last;
     session[TRAIL + at] = 0;
     session[levels_at(variables) + at] = 0;

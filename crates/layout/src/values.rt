@@ -70,7 +70,7 @@ pub fn literal_value(session: &[u32], variables: usize, literal: u32) -> Value
 }
 
 // The level of the trail literal before a place; 0 where there is none.
-pub fn level_before_lem(session: &[u32], variables: usize, at: usize) -> u32
+pub fn level_before(session: &[u32], variables: usize, at: usize) -> u32
     requires { TrailFits variables session.now × (at ≤ variables) }
     ensures { result ≡ level_before variables session.now at }
 {

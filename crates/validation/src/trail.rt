@@ -5,7 +5,7 @@ ghost use Rattle.validation.specs.Inner.Says.{Says};
 ghost use Rattle.validation.specs.Inner.Trail.{TrailGood, PlaceGood, PlaceFree, ValueGood};
 
 use layout::offsets::{DECISIONS, LENGTH, TRAIL, levels_at, value_slot, values_at};
-use layout::values::{level_before_lem, wide};
+use layout::values::{level_before, wide};
 
 // Whether a place of the trail holds a literal of the variables, at the level before it or one more, whose value says that place.
 fn place_passes(session: &[u32], variables: usize, i: usize) -> bool
@@ -20,7 +20,7 @@ fn place_passes(session: &[u32], variables: usize, i: usize) -> bool
         return false;
     }
     let level = session[levels_at(variables) + i];
-    let before = level_before_lem(session, variables, i);
+    let before = level_before(session, variables, i);
     if level < before {
         return false;
     }
@@ -114,7 +114,7 @@ pub(crate) fn trail_passes(session: &[u32], variables: usize) -> bool
     if count > variables {
         return false;
     }
-    let last = level_before_lem(session, variables, count);
+    let last = level_before(session, variables, count);
     if session[DECISIONS] != last {
         return false;
     }
