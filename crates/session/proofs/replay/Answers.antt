@@ -1,0 +1,91 @@
+use mathlib.Core.Path.{◌≡◌, ap, sym, ◌∙◌}
+use native.Mathlib.Omega.{arith}
+use Prim.Native.Nat.{◌+◌}
+use mathlib.Core.Logic.{⊎_elim}
+use lib.ListN.{length}
+use Rattle.session.specs.Outcomes.{calls_of, replay_numbers}
+use Rattle.session.proofs.CallLaws.{open_accepted}
+use Rattle.session.proofs.Statements.{statement_3}
+use Rattle.session.proofs.OpenLaws.{open_done, replay_refused, replay_numbers_lem, replay_done}
+use Rattle.session.proofs.ReplayLaws.{Replaying, replaying_none, replaying_decision, replaying_fixing, replaying_backtrack, replaying_all}
+use Rattle.session.proofs.replay.Goals as goal
+use Rattle.session.proofs.replay.Goals.{then-calls-i-eq0, else-calls-i-eq0+then-calls-i-eq2, else-calls-i-eq0+else-calls-i-eq2}
+
+pub open_refusal-refused-requires : goal.open_refusal-refused-requires
+open_refusal-refused-requires c = tt
+
+pub returns-then-refused-ne0 : goal.returns-then-refused-ne0
+returns-then-refused-ne0 c =
+    let out = replay_refused c.args.book.now c.args.session.now (calls_of c.args.calls.now) _ c.open_refusal-refused.ensures c.if-refused-ne0.true in
+    record { value = out.0; session_after = out.1; replayed = λ z. absurd (c.if-refused-ne0.true (c.open_refusal-refused.ensures ∙ z)) }
+
+pub open-requires : goal.open-requires
+open-requires c =
+    open_accepted c.args.book.now c.args.session.now (sym (sym c.if-refused-ne0.false ∙ c.open_refusal-refused.ensures))
+
+pub loop-i-init : goal.loop-i-init
+loop-i-init c = replaying_none c.args.book.now c.args.calls.now _
+
+pub overflow_add-i : goal.overflow_add-i
+overflow_add-i c = omega (arith, c.loop-i.invariant.within)
+
+pub overflow_add-number : goal.overflow_add-number
+overflow_add-number c = omega (arith, c.loop-i.invariant.within)
+
+pub offset_bounds-calls-i : goal.offset_bounds-calls-i
+offset_bounds-calls-i c = omega (arith, c.well_formed, c.loop-i-test.true)
+
+pub offset_bounds-calls-i-in-loop-i : goal.offset_bounds-calls-i-in-loop-i
+offset_bounds-calls-i-in-loop-i c = omega (arith, c.well_formed, c.loop-i-test.true)
+
+pub bounds-calls-i-in-loop-i : goal.bounds-calls-i-in-loop-i
+bounds-calls-i-in-loop-i c = omega arith
+
+pub decide-requires : goal.decide-requires
+decide-requires c = tt
+
+pub offset_bounds-calls-i-else-calls-i-eq0 : goal.offset_bounds-calls-i-else-calls-i-eq0
+offset_bounds-calls-i-else-calls-i-eq0 c = omega (arith, c.well_formed, c.loop-i-test.true)
+
+pub bounds-calls-i-else-calls-i-eq0 : goal.bounds-calls-i-else-calls-i-eq0
+bounds-calls-i-else-calls-i-eq0 c = omega (arith, c.loop-i-test.true)
+
+pub fix-requires : goal.fix-requires
+fix-requires c = tt
+
+pub backtrack-requires : goal.backtrack-requires
+backtrack-requires c = tt
+
+pub overflow_add-i-in-loop-i : goal.overflow_add-i-in-loop-i
+overflow_add-i-in-loop-i c = omega (arith, c.loop-i-test.true)
+
+pub loop-i-smaller : goal.loop-i-smaller
+loop-i-smaller c = omega (arith, c.loop-i-test.true)
+
+pub loop-i-preserved : goal.loop-i-preserved
+loop-i-preserved c =
+    let joined : Replaying c.args.book.now c.args.calls.now c.open.new.session c.if-calls-i-eq0.session (c.loop-i.i + 2) = elim c.if-calls-i-eq0.branch [
+      | then-calls-i-eq0 w ↦
+          replaying_decision c.args.book.now c.args.calls.now c.open.new.session c.loop-i.session _ c.loop-i.i c.loop-i.invariant c.loop-i-test.true (ap length w.session-is ∙ w.decide.auto.session) w.if-calls-i-eq0.true (w.session-is ∙ w.decide.ensures.session_after)
+      | else-calls-i-eq0+then-calls-i-eq2 w ↦
+          replaying_fixing c.args.book.now c.args.calls.now c.open.new.session c.loop-i.session _ c.loop-i.i c.loop-i.invariant c.loop-i-test.true (ap length w.session-is ∙ w.fix.auto.session) w.if-calls-i-eq0.false w.if-calls-i-eq2.true (w.session-is ∙ w.fix.ensures.session_after)
+      | else-calls-i-eq0+else-calls-i-eq2 w ↦
+          replaying_backtrack c.args.book.now c.args.calls.now c.open.new.session c.loop-i.session _ c.loop-i.i c.loop-i.invariant c.loop-i-test.true (ap length w.session-is ∙ w.backtrack.auto.session) w.if-calls-i-eq0.false w.if-calls-i-eq2.false (w.session-is ∙ w.backtrack.ensures.session_after)
+    ] in
+    joined
+
+pub answered-requires : goal.answered-requires
+answered-requires c =
+    let finished : c.loop-i.session ≡ replay_numbers c.args.book.now (calls_of c.args.calls.now) c.args.session.now = replay_numbers_lem c.args.book.now c.args.session.now (calls_of c.args.calls.now) _ _ (sym c.if-refused-ne0.false ∙ c.open_refusal-refused.ensures) (open_done c.args.book.now c.args.session.now _ (sym c.if-refused-ne0.false ∙ c.open_refusal-refused.ensures) c.open.ensures).1
+    (replaying_all c.args.book.now c.args.calls.now _ _ c.loop-i.i c.loop-i.invariant (omega (arith, c.loop-i-test.false))) in
+    ((replay_done c.args.book.now c.args.session.now (calls_of c.args.calls.now) _ (sym c.if-refused-ne0.false ∙ c.open_refusal-refused.ensures) (finished)).1, omega arith)
+
+pub shape_of-session : goal.shape_of-session
+shape_of-session c = c.loop-i.invariant.same_length ∙ c.open.ensures.same_length
+
+pub returns : goal.returns
+returns c =
+    let finished : c.loop-i.session ≡ replay_numbers c.args.book.now (calls_of c.args.calls.now) c.args.session.now = replay_numbers_lem c.args.book.now c.args.session.now (calls_of c.args.calls.now) _ _ (sym c.if-refused-ne0.false ∙ c.open_refusal-refused.ensures) (open_done c.args.book.now c.args.session.now _ (sym c.if-refused-ne0.false ∙ c.open_refusal-refused.ensures) c.open.ensures).1
+    (replaying_all c.args.book.now c.args.calls.now _ _ c.loop-i.i c.loop-i.invariant (omega (arith, c.loop-i-test.false))) in
+    let done = replay_done c.args.book.now c.args.session.now (calls_of c.args.calls.now) _ (sym c.if-refused-ne0.false ∙ c.open_refusal-refused.ensures) (finished) in
+    record { value = c.answered.ensures ∙ done.0; session_after = finished; replayed = statement_3 c.args.book.now c.args.session.now (calls_of c.args.calls.now) _ (finished) }
