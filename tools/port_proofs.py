@@ -8,7 +8,7 @@ root = os.path.dirname(os.path.dirname(os.path.abspath(crate_dir)))
 crate = os.path.basename(os.path.abspath(crate_dir))
 J = json.load(open(names_path))
 TOK = re.compile(r'[^\s(){}.;,@"«»`\[\]]+')
-norm = lambda s: s.replace('_', '-')
+norm = lambda s: s.replace('_', '-').replace('«', '').replace('»', '').lower() if not s[:1].isupper() else s.replace('_', '-')
 
 # clauses of every function of the repository
 CL = {}
@@ -87,13 +87,14 @@ class Fn:
         while p:
             e = self.places.get(p)
             if not e: return None
-            if norm(e[2][0]) == norm(seg): return e
+            if norm(e[2][0]) == norm(seg) or norm(e[2][1]) == norm(seg): return e
             p = norm(e[1]) if e[1] else None
         return None
-    def pattern_names(self, first):
-        for m in re.finditer(r'\w+::\w+(?:\s*\{([^{}]*)\}|\(([^()]*)\))', SRC.get(self.fname, '')):
+    def pattern_names(self, arm):
+        variant = arm.split('-')[1] if '-' in arm else ''
+        for m in re.finditer(r'\b%s\b(?:\s*\{([^{}]*)\}|\(([^()]*)\))\s*(?:=>|=)' % re.escape(variant), SRC.get(self.fname, '')):
             ns = [x.split(':')[-1].strip() for x in (m[1] or m[2] or '').split(',') if x.strip()]
-            if ns and norm(ns[0]) == norm(re.sub(r'\d+$', '', first) if norm(ns[0]) != norm(first) else first): return ns
+            if ns: return ns
         return None
     def parent(self, p):
         e = self.places.get(p)
@@ -110,20 +111,24 @@ class Fn:
         rest = segs[i:]
         if not rest: return ['before'] * n
         s = rest[0]
-        s = {'pre': 'requires', 'entry': 'initial', 'good': 'well_formed', 'fits': 'ranges'}.get(s, s)
+        s = {'pre': 'requires', 'type_size': 'size_of', 'type-size': 'size_of', 'entry': 'initial', 'good': 'well_formed', 'fits': 'ranges'}.get(s, s)
         if s in ('args', 'well-formed', 'well_formed', 'ranges', 'requires', 'type-inv', 'type_inv'):
             r = rest[1:]
-            if s == 'requires' and self.fname in CL: r = clause_path(r, CL[self.fname][1])
+            if s == 'args' and r: r = [r[0].replace('-', '_')] + r[1:]
+            if s == 'requires' and self.fname in CL:
+                if not r and len(CL[self.fname][1]) > 1: return ['!', s] + CL[self.fname][1]
+                r = clause_path(r, CL[self.fname][1])
             return [s.replace('-', '_')] + r
         e = self.step(p, s) if p else None
         if not e: e = self.step(place, s)
         if not e: return ['before'] * n + rest
         new = e[2][1]; r = rest[1:]
-        if r: r = [{'inv': 'invariant', 'taken': 'true', 'left': 'false', 'kept': 'auto', 'last': 'new', 'came': 'branch', 'typed': 'type_inv'}.get(r[0], r[0])] + r[1:]
+        if r and norm(e[2][0]).startswith('loop') and 'test' not in e[2][0]: r = [{'inv': 'invariant'}.get(r[0], r[0])] + r[1:]
+        elif r: r = [{'inv': 'invariant', 'taken': 'true', 'left': 'false', 'kept': 'auto', 'last': 'new', 'came': 'branch', 'typed': 'type_inv', 'type-inv': 'type_inv'}.get(r[0], r[0])] + r[1:]
         if len(r) >= 2 and r[0] == 'given' and r[1] == '0':
             q = norm(e[0])
             while q and not self.places[q][2][1].startswith(('in-', 'in_')): q = self.parent(q)
-            names = self.pattern_names(e[2][0])
+            names = self.pattern_names(self.places[q][2][1]) if q else None
             if q and names:
                 return [self.places[q][2][1]] + param_path(r[2:], names)
         if len(r) >= 2 and r[0] == 'given' and r[1] == '1':
@@ -135,6 +140,7 @@ class Fn:
                 if r[0] == o: r = [nn] + r[1:]; break
         callee = e[3]
         if r and callee and callee in CL:
+            if r[0] == 'ensures' and len(r) == 1 and len(CL[callee][2]) > 1: return ['!', new + '.ensures'] + CL[callee][2]
             if r[0] == 'ensures': r = ['ensures'] + clause_path(r[1:], CL[callee][2])
             elif r[0] == 'requires': r = ['requires'] + clause_path(r[1:], CL[callee][1])
             elif r[0] == 'new': r = ['new'] + param_path(r[1:], CL[callee][0])
@@ -168,8 +174,14 @@ def convert_body(fn, text, env):
         segs = pre + [s for s in m[2].split('.') if s]
         if not segs: return m[0]
         base = env[var][2] if len(env[var]) > 2 else 'c'
-        return '.'.join([ROOT] + fn.convert(place, segs))
-    return re.sub(r"(?<![^\s(){};,«»\[\]])([A-Za-z_][^\s(){}.;,«»\[\]]*)((?:\.[^\s(){}.;,«»\[\]]+)*)", repl, text)
+        got = fn.convert(place, segs)
+        if got[:1] == ['!']:
+            ps = ['%s.%s.%s' % (ROOT, got[1], n) for n in got[2:]]
+            o = ps[-1]
+            for q in reversed(ps[:-1]): o = '(%s, %s)' % (q, o)
+            return o
+        return '.'.join([ROOT] + got)
+    return re.sub(r"(?<![^\s(){};,«»\[\]])([A-Za-z_][^\s(){}.;,«»\[\]]*)((?:\.[^\s(){}.;,«»\[\]]+)*)(?! =\s)", repl, text)
 
 ROOT = 'c'
 
@@ -210,6 +222,12 @@ def flat_parts(s, n):
 def whole(rest, names):
     """a record of the parts of what is proved whole"""
     s = rest.strip()
+    cut = s.rfind(' in\n')
+    if 'let ' in s and cut > 0 and 'let ' not in s[cut:] and not s[cut + 4:].strip().startswith(('record', 'rw ', 'search', 'omega', 'λ')):
+        tail = re.sub(r'\s*\n\s*', ' ', s[cut + 4:].strip())
+        n = len(names)
+        proj = ['.1' * k + ('.0' if k < n - 1 else '') for k in range(n)]
+        return '\n    ' + s[:cut + 4] + '    record { ' + '; '.join('%s = (%s)%s' % (nm, tail, p) for nm, p in zip(names, proj)) + ' }'
     if 'let ' in s or s.startswith('record') or s in ('tt',) or s.startswith('search') or s.startswith('omega') or s.startswith('λ') or s.startswith('rw '): return rest
     n = len(names)
     proj = ['.1' * k + ('.0' if k < n - 1 else '') for k in range(n)]
@@ -252,7 +270,7 @@ def used_imports(uses, text, own):
                 nm = x.split(' as ')[-1].strip('«»')
                 if '◌' in nm:
                     ops = [q for q in nm.split('◌') if q]
-                    if all(o in toks for o in ops): keep.append(x)
+                    if all(o in toks for o in ops) or nm in toks: keep.append(x)
                 elif nm in toks or (nm == '[]' and '[]' in text): keep.append(x)
             if keep: out.append('use %s.{%s}' % (m[1], ', '.join(keep)))
             continue
@@ -270,7 +288,7 @@ def do(path):
         print('no names for', rel); return
     fname = '::'.join([crate] + rel.split('/'))
     fn = Fn(path, key, fname)
-    text = open(path).read().rstrip('\n')
+    text = re.sub(r'(?<=\.)«([^»]*)»', r'\1', open(path).read().rstrip('\n'))
     chunks, cur = [], []
     for l in text.split('\n'):
         if l == '' : 
@@ -297,7 +315,7 @@ def do(path):
                 y = re.sub(r"(?<![^\s(){};,])%s ([^\s().:=]+(?:\.before)*)(?![^\s(){};,])(?! =)" % re.escape(a_), lambda m: m[1] + hops, y)
             if y == x: return x
             x = y
-    chunks = [chunks[0]] + [ch if any(re.search(r'(?m)^abbrev %s :' % re.escape(a_), ch) for a_ in al) else unal(ch) for ch in chunks[1:]]
+    chunks = [chunks[0]] + [ch if re.search(r'(?m)^(abbrev )?\S+ : tie\.(invariant|decreases)-', ch) or any(re.search(r'(?m)^abbrev %s :' % re.escape(a_), ch) for a_ in al) else unal(ch) for ch in chunks[1:]]
     for ch in chunks[1:]:
         lines = ch.split('\n')
         com = []
