@@ -1,11 +1,12 @@
 -- The parts of a quote record: how long they are, where they stand, and the record written part by part and read part by part.
-use Prim.Native.Nat.{ℕ, ◌+◌, ◌*◌, ◌≤◌, ◌<◌}
+use Prim.Native.Nat.{ℕ, ◌+◌, ◌*◌, ◌/◌, ◌%◌, ◌≤◌, ◌<◌}
 use mathlib.Core.Bool.{Bool, true, false, cond, ◌&&◌}
 use mathlib.Core.Path.{◌≡◌, refl, sym, ap, ap₂, ◌∙◌}
 use mathlib.Core.List.{List, [], ◌∷◌, ◌++◌, append_assoc}
 use native.Mathlib.Nat.{add-zero}
 use native.Mathlib.Omega.{arith}
 use borrow.Author.Tests.{lt-ltb, le-ltb, eq-eqb, ne_eqb}
+use lib.Dec.{eqb}
 use lib.IntN.{ℤ}
 use lib.ListN.{length, take, drop, set, length-append, length-drop, take-append-drop}
 use lib.Seq.{length-take-le, drop-drop}
@@ -30,6 +31,20 @@ pub length_part : (present : Bool) (value : ℤ) → length (part present value)
 unfolding part
 length_part true value = length_field max_bytes value (omega arith)
 length_part false value = refl
+
+-- the flag of a bit, as the code comes to it: by the bit's weight
+module _ (map : ℕ) {flag : Bool} where
+  pub flag_base : flag ≡ eqb (map / 1 % 2) 1 → flag ≡ stands map 0
+  unfolding stands
+  flag_base e = e
+
+  pub flag_premium : flag ≡ eqb (map / 2 % 2) 1 → flag ≡ stands map 1
+  unfolding stands
+  flag_premium e = e
+
+  pub flag_lines : flag ≡ eqb (map / 4 % 2) 1 → flag ≡ stands map 2
+  unfolding stands
+  flag_lines e = e
 
 -- the places behind the first part, behind the second and behind the third
 module _ (map : ℕ) where
