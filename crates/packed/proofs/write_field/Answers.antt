@@ -57,5 +57,5 @@ returns c =
     let told : c.field_refusal-refused.result ≡ field_refusal c.args.value c.args.bytes (length c.args.out.now) = c.field_refusal-refused.ensures ∙ ap (λ (v : ℤ). field_refusal v c.args.bytes (length c.args.out.now)) (to_z-of_z w64 c.args.value c.ranges.value) in
     let fits : (1 ≤ c.args.bytes) × (c.args.bytes ≤ max_bytes) × (c.args.bytes ≤ length c.args.out.now) = unrefused c.args.value c.args.bytes (length c.args.out.now) (sym told ∙ c.if-refused-ne0.false) in
     let said = written_so (field_of c.args.bytes c.args.value) c.args.out.now _ _ _ _ told c.if-refused-ne0.false (sym (length_field c.args.bytes c.args.value fits.0))
-        (field_front c.args.bytes c.args.value (to_z-of_z w64 c.args.value c.ranges.value) c.args.out.now fits.0 fits.2 c.put_field.ensures) in
+    (field_front c.args.bytes c.args.value (to_z-of_z w64 c.args.value c.ranges.value) c.args.out.now fits.0 fits.2 c.put_field.ensures) in
     record { value = said.0; out_after = said.1 }

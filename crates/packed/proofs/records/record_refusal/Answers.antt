@@ -22,7 +22,7 @@ pub returns-then-not-part_within : goal.returns-then-not-part_within
 unfolding record_refusal
 returns-then-not-part_within c =
     let first : c.part_within.result ≡ part_within (stands c.args.map 0) c.args.base =
-        c.part_within.ensures ∙ ap₂ part_within (flag_base c.args.map c.stands.ensures) (to_z-of_z w64 c.args.base c.ranges.base) in
+    c.part_within.ensures ∙ ap₂ part_within (flag_base c.args.map c.stands.ensures) (to_z-of_z w64 c.args.base c.ranges.base) in
     let form : Bool = map_within c.args.map in
     let values : Bool = values_within c.args.map c.args.base c.args.premium c.args.open_lines in
     let room : Bool = leb (record_length c.args.map) c.args.room in
@@ -33,9 +33,9 @@ pub returns-then-not-part_within-2 : goal.returns-then-not-part_within-2
 unfolding record_refusal
 returns-then-not-part_within-2 c =
     let first : c.part_within.result ≡ part_within (stands c.args.map 0) c.args.base =
-        c.part_within.ensures ∙ ap₂ part_within (flag_base c.args.map c.stands.ensures) (to_z-of_z w64 c.args.base c.ranges.base) in
+    c.part_within.ensures ∙ ap₂ part_within (flag_base c.args.map c.stands.ensures) (to_z-of_z w64 c.args.base c.ranges.base) in
     let second : c.part_within-2.result ≡ part_within (stands c.args.map 1) c.args.premium =
-        c.part_within-2.ensures ∙ ap₂ part_within (flag_premium c.args.map c.stands-2.ensures) (to_z-of_z w64 c.args.premium c.ranges.premium) in
+    c.part_within-2.ensures ∙ ap₂ part_within (flag_premium c.args.map c.stands-2.ensures) (to_z-of_z w64 c.args.premium c.ranges.premium) in
     let form : Bool = map_within c.args.map in
     let values : Bool = values_within c.args.map c.args.base c.args.premium c.args.open_lines in
     let room : Bool = leb (record_length c.args.map) c.args.room in
@@ -47,11 +47,11 @@ pub returns-then-not-part_within-3 : goal.returns-then-not-part_within-3
 unfolding record_refusal
 returns-then-not-part_within-3 c =
     let first : c.part_within.result ≡ part_within (stands c.args.map 0) c.args.base =
-        c.part_within.ensures ∙ ap₂ part_within (flag_base c.args.map c.stands.ensures) (to_z-of_z w64 c.args.base c.ranges.base) in
+    c.part_within.ensures ∙ ap₂ part_within (flag_base c.args.map c.stands.ensures) (to_z-of_z w64 c.args.base c.ranges.base) in
     let second : c.part_within-2.result ≡ part_within (stands c.args.map 1) c.args.premium =
-        c.part_within-2.ensures ∙ ap₂ part_within (flag_premium c.args.map c.stands-2.ensures) (to_z-of_z w64 c.args.premium c.ranges.premium) in
+    c.part_within-2.ensures ∙ ap₂ part_within (flag_premium c.args.map c.stands-2.ensures) (to_z-of_z w64 c.args.premium c.ranges.premium) in
     let third : c.part_within-3.result ≡ part_within (stands c.args.map 2) c.args.open_lines =
-        c.part_within-3.ensures ∙ ap₂ part_within (flag_lines c.args.map c.stands-3.ensures) (to_z-of_z w64 c.args.open_lines c.ranges.open_lines) in
+    c.part_within-3.ensures ∙ ap₂ part_within (flag_lines c.args.map c.stands-3.ensures) (to_z-of_z w64 c.args.open_lines c.ranges.open_lines) in
     let form : Bool = map_within c.args.map in
     let values : Bool = values_within c.args.map c.args.base c.args.premium c.args.open_lines in
     let room : Bool = leb (record_length c.args.map) c.args.room in
@@ -64,11 +64,11 @@ pub returns-then-room-record_length : goal.returns-then-room-record_length
 unfolding record_refusal
 returns-then-room-record_length c =
     let first : c.part_within.result ≡ part_within (stands c.args.map 0) c.args.base =
-        c.part_within.ensures ∙ ap₂ part_within (flag_base c.args.map c.stands.ensures) (to_z-of_z w64 c.args.base c.ranges.base) in
+    c.part_within.ensures ∙ ap₂ part_within (flag_base c.args.map c.stands.ensures) (to_z-of_z w64 c.args.base c.ranges.base) in
     let second : c.part_within-2.result ≡ part_within (stands c.args.map 1) c.args.premium =
-        c.part_within-2.ensures ∙ ap₂ part_within (flag_premium c.args.map c.stands-2.ensures) (to_z-of_z w64 c.args.premium c.ranges.premium) in
+    c.part_within-2.ensures ∙ ap₂ part_within (flag_premium c.args.map c.stands-2.ensures) (to_z-of_z w64 c.args.premium c.ranges.premium) in
     let third : c.part_within-3.result ≡ part_within (stands c.args.map 2) c.args.open_lines =
-        c.part_within-3.ensures ∙ ap₂ part_within (flag_lines c.args.map c.stands-3.ensures) (to_z-of_z w64 c.args.open_lines c.ranges.open_lines) in
+    c.part_within-3.ensures ∙ ap₂ part_within (flag_lines c.args.map c.stands-3.ensures) (to_z-of_z w64 c.args.open_lines c.ranges.open_lines) in
     let form : Bool = map_within c.args.map in
     let values : Bool = values_within c.args.map c.args.base c.args.premium c.args.open_lines in
     let room : Bool = leb (record_length c.args.map) c.args.room in
@@ -83,11 +83,11 @@ pub returns : goal.returns
 unfolding record_refusal
 returns c =
     let first : c.part_within.result ≡ part_within (stands c.args.map 0) c.args.base =
-        c.part_within.ensures ∙ ap₂ part_within (flag_base c.args.map c.stands.ensures) (to_z-of_z w64 c.args.base c.ranges.base) in
+    c.part_within.ensures ∙ ap₂ part_within (flag_base c.args.map c.stands.ensures) (to_z-of_z w64 c.args.base c.ranges.base) in
     let second : c.part_within-2.result ≡ part_within (stands c.args.map 1) c.args.premium =
-        c.part_within-2.ensures ∙ ap₂ part_within (flag_premium c.args.map c.stands-2.ensures) (to_z-of_z w64 c.args.premium c.ranges.premium) in
+    c.part_within-2.ensures ∙ ap₂ part_within (flag_premium c.args.map c.stands-2.ensures) (to_z-of_z w64 c.args.premium c.ranges.premium) in
     let third : c.part_within-3.result ≡ part_within (stands c.args.map 2) c.args.open_lines =
-        c.part_within-3.ensures ∙ ap₂ part_within (flag_lines c.args.map c.stands-3.ensures) (to_z-of_z w64 c.args.open_lines c.ranges.open_lines) in
+    c.part_within-3.ensures ∙ ap₂ part_within (flag_lines c.args.map c.stands-3.ensures) (to_z-of_z w64 c.args.open_lines c.ranges.open_lines) in
     let form : Bool = map_within c.args.map in
     let values : Bool = values_within c.args.map c.args.base c.args.premium c.args.open_lines in
     let room : Bool = leb (record_length c.args.map) c.args.room in
