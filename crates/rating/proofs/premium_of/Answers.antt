@@ -1,3 +1,4 @@
+use borrow.Author.Rules.{rules}
 use mathlib.Core.Path.{◌≡◌, sym, ap, ap₂, ◌∙◌}
 use lib.IntN.{ℤ}
 use mir.Syntax.{w64}
@@ -15,7 +16,7 @@ returns-in-At c =
     let all-applied : c.apply_all.result ≡ priced_by (is_true (held (formula_of c.args.book.now) c.args.session.now).trail) (At c.args.start) (lines_of c.args.lines.now) = let trail = (held (formula_of c.args.book.now) c.args.session.now).trail in
     c.apply_all.ensures ∙ ap (λ (x : ℤ). priced_by (is_true trail) (At x) (lines_of c.args.lines.now)) (to_z-of_z w64 c.args.start c.ranges.start) in
     let trail = (held (formula_of c.args.book.now) c.args.session.now).trail in
-    ap₂ Of (to_z-of_z w64 c.in-At.amount (record { sfits = c.in-At.known_told-1-own.given.0.1 })) c.open_lines.ensures
+    ap₂ Of (to_z-of_z w64 c.in-At.amount (search rules)) c.open_lines.ensures
     ∙ ap (offered (open_lines (is_true trail) (lines_of c.args.lines.now))) (sym c.in-At.is ∙ all-applied)
 
 pub returns-in-Beyond : goal.returns-in-Beyond

@@ -1,3 +1,4 @@
+use borrow.Author.Rules.{rules}
 use Prim.Native.Nat.{ℕ}
 use mathlib.Core.Path.{◌≡◌, sym, ap, ◌∙◌}
 use lib.Dec.{leb}
@@ -11,7 +12,7 @@ pub returns-in-Amount : goal.returns-in-Amount
 unfolding change_within
 returns-in-Amount c =
     let wide : c.widened.result ≡ c.in-Amount.cents
-    = c.widened.ensures ∙ to_z-of_z w32 c.in-Amount.cents (record { sfits = c.in-Amount.known_told-1-own.given.0.1 }) in
+    = c.widened.ensures ∙ to_z-of_z w32 c.in-Amount.cents (search rules) in
     let size : c.size_of.result ≡ nat_abs c.in-Amount.cents
     = c.size_of.ensures ∙ ap nat_abs (to_z-of_z w64 _ (record { sfits = c.widened.type_inv }) ∙ wide) in
     ap (λ (n : ℕ). leb n max_amount) size ∙ sym (ap change_within c.in-Amount.is)
@@ -20,7 +21,7 @@ pub returns-in-Thousandths : goal.returns-in-Thousandths
 unfolding change_within
 returns-in-Thousandths c =
     let wide : c.widened-in-Thousandths.result ≡ c.in-Thousandths.part
-    = c.widened-in-Thousandths.ensures ∙ to_z-of_z w32 c.in-Thousandths.part (record { sfits = c.in-Thousandths.known_told-in-Thousandths-1-own.given.0.1 }) in
+    = c.widened-in-Thousandths.ensures ∙ to_z-of_z w32 c.in-Thousandths.part (search rules) in
     let size : c.size_of-in-Thousandths.result ≡ nat_abs c.in-Thousandths.part
     = c.size_of-in-Thousandths.ensures ∙ ap nat_abs (to_z-of_z w64 _ (record { sfits = c.widened-in-Thousandths.type_inv }) ∙ wide) in
     ap (λ (n : ℕ). leb n max_thousandths) size ∙ sym (ap change_within c.in-Thousandths.is)

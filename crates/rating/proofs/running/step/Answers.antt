@@ -1,3 +1,4 @@
+use borrow.Author.Rules.{rules}
 use mathlib.Core.Path.{◌≡◌, ap, ◌∙◌}
 use lib.IntN.{ℤ}
 use mir.Syntax.{w64}
@@ -12,13 +13,13 @@ returns-then-not-applies c = step_passed c.args.applies c.if-not-applies.true-ra
 
 pub applied-requires : goal.applied-requires
 applied-requires c =
-    let running-is : to_z w64 (of_z w64 c.in-At.running) ≡ c.in-At.running = to_z-of_z w64 _ (record { sfits = c.in-At.known_told-1-own.given.0.1 }) in
+    let running-is : to_z w64 (of_z w64 c.in-At.running) ≡ c.in-At.running = to_z-of_z w64 _ (search rules) in
     let small = c.requires.0 c.in-At.running c.in-At.is in
     (rw (running-is) small, c.requires.1)
 
 pub returns-in-At : goal.returns-in-At
 returns-in-At c =
-    let running-is : to_z w64 (of_z w64 c.in-At.running) ≡ c.in-At.running = to_z-of_z w64 _ (record { sfits = c.in-At.known_told-1-own.given.0.1 }) in
+    let running-is : to_z w64 (of_z w64 c.in-At.running) ≡ c.in-At.running = to_z-of_z w64 _ (search rules) in
     let next : to_z w64 (of_z w64 c.applied.result) ≡ applied c.in-At.running c.args.line.change
     = to_z-of_z w64 _ (record { sfits = c.applied.type_inv }) ∙ c.applied.ensures ∙ ap (λ (x : ℤ). applied x c.args.line.change) (running-is) in
     c.limited.ensures ∙ ap limited next ∙ step_applied c.args.applies c.if-not-applies.false-raw c.args.state c.args.line _ c.in-At.is
