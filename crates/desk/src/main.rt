@@ -84,7 +84,8 @@ fn answer_part(
 
 // Reads once, and answers what came.
 fn answer_some(
-    rt: &(impl Input + Print),
+    rt: &impl Print,
+    input: &mut impl Read,
     book: &[u32],
     session: &mut [u32],
     line: &mut [u8],
@@ -92,7 +93,7 @@ fn answer_some(
     out: &mut [u8],
 ) -> Part {
     let mut bytes = [0u8; 4096];
-    match rt.reader().read(&mut bytes) {
+    match input.read(&mut bytes) {
         Err(_) => Part::Failed,
         Ok(0) => Part::Ended,
         Ok(n) => answer_part(rt, book, session, line, kept, &bytes[..n], out),
@@ -108,10 +109,11 @@ fn answer_script(
     line: &mut [u8],
     out: &mut [u8],
 ) {
+    let mut input = rt.reader();
     let mut kept: usize = 0;
     let mut turns = u64::MAX;
     while turns > 0 {
-        match answer_some(rt, book, session, line, kept, out) {
+        match answer_some(rt, &mut input, book, session, line, kept, out) {
             Part::Failed => return,
             Part::Ended => turns = 0,
             Part::Kept(held) => {
