@@ -7,7 +7,9 @@ ghost use Rattle.dialog.specs.Program.{Lends, holding, PartTaken};
 use book::limits::{MAX_BOOK, MAX_TEXT};
 use dialog::{MAX_ANSWER, MAX_LINE, Started};
 use layout::offsets::MAX_SESSION;
-use libc::{STDIN_FILENO, STDOUT_FILENO};
+use std::fs::File;
+use std::io::{ErrorKind, Read};
+use std::rt::Files;
 
 // What was read of the rule book.
 #[derive(Clone, Copy)]
@@ -26,46 +28,38 @@ enum Part {
 }
 
 // Prints the first `n` bytes, and answers whether all of them were written.
-fn print(bytes: &[u8], n: usize) -> bool {
+fn print(rt: &impl Print, bytes: &[u8], n: usize) -> bool {
     if n <= bytes.len() {
-        return io::write_all(STDOUT_FILENO, &bytes[..n]);
+        return rt.write_all(&bytes[..n]).is_ok();
     }
     false
 }
 
 // The bytes of a file, as many as fit.
-fn read_file(file: i32, bytes: &mut [u8]) -> Text {
+fn read_file(file: &mut impl Read, bytes: &mut [u8]) -> Text {
     let mut at = 0;
     while at < bytes.len() {
-        let got = libc::read(file, &mut bytes[at..]);
-        if got < 0 {
-            return Text::Failed;
+        match file.read(&mut bytes[at..]) {
+            Err(_) => return Text::Failed,
+            Ok(0) => return Text::Bytes(at),
+            Ok(n) => at += n,
         }
-        let n = io::count(got, &bytes[at..]);
-        if n == 0 {
-            return Text::Bytes(at);
-        }
-        at += n;
     }
     Text::Bytes(at)
 }
 
 // The text of the rule book, as much as tells that it is over the limit; no file is an empty text.
-fn read_text(text: &mut [u8]) -> Text {
-    let file = os::open_read(b"tariff.cnf");
-    if file < 0 {
-        if os::errno() == libc::ENOENT {
-            return Text::Bytes(0);
-        }
-        return Text::Failed;
+fn read_text(rt: &impl Files, text: &mut [u8]) -> Text {
+    match File::open(rt, "tariff.cnf") {
+        Ok(mut file) => read_file(&mut file, text),
+        Err(e) if e.kind() == ErrorKind::NotFound => Text::Bytes(0),
+        Err(_) => Text::Failed,
     }
-    let read = read_file(file, text);
-    libc::close(file);
-    read
 }
 
 // Answers a part of the script: it is lent again, without what is used of it, until it is used up.
 fn answer_part(
+    rt: &impl Print,
     book: &[u32],
     session: &mut [u32],
     line: &mut [u8],
@@ -79,7 +73,7 @@ fn answer_part(
     let mut at = 0;
     while at < bytes.len() {
         let taken = dialog::take(book, session, line, held, &bytes[at..], out);
-        if !print(out, taken.written) {
+        if !print(rt, out, taken.written) {
             return Part::Failed;
         }
         held = taken.kept;
@@ -90,31 +84,36 @@ fn answer_part(
 
 // Reads once, and answers what came.
 fn answer_some(
+    rt: &impl Print,
+    input: &mut impl Read,
     book: &[u32],
     session: &mut [u32],
     line: &mut [u8],
     kept: usize,
     out: &mut [u8],
 ) -> Part {
-    let mut bytes = io::buffer();
-    let got = libc::read(STDIN_FILENO, &mut bytes);
-    if got < 0 {
-        return Part::Failed;
+    let mut bytes = [0u8; 4096];
+    match input.read(&mut bytes) {
+        Err(_) => Part::Failed,
+        Ok(0) => Part::Ended,
+        Ok(n) => answer_part(rt, book, session, line, kept, &bytes[..n], out),
     }
-    let n = io::count(got, &bytes);
-    if n == 0 {
-        return Part::Ended;
-    }
-    answer_part(book, session, line, kept, &bytes[..n], out)
 }
 
 // Answers the script. A proved loop has to end, so it counts its turns down, from a number that no run uses up. Where a read or a write
 // fails, nothing more is printed, and the last line is missing.
-fn answer_script(book: &[u32], session: &mut [u32], line: &mut [u8], out: &mut [u8]) {
+fn answer_script(
+    rt: &(impl Input + Print),
+    book: &[u32],
+    session: &mut [u32],
+    line: &mut [u8],
+    out: &mut [u8],
+) {
+    let mut input = rt.reader();
     let mut kept: usize = 0;
     let mut turns = u64::MAX;
     while turns > 0 {
-        match answer_some(book, session, line, kept, out) {
+        match answer_some(rt, &mut input, book, session, line, kept, out) {
             Part::Failed => return,
             Part::Ended => turns = 0,
             Part::Kept(held) => {
@@ -124,34 +123,48 @@ fn answer_script(book: &[u32], session: &mut [u32], line: &mut [u8], out: &mut [
         }
     }
     let n = dialog::finish(book, session, line, kept, out);
-    print(out, n);
+    print(rt, out, n);
 }
 
 // The dialog on the text of a rule book, in buffers that every book, session and answer fits.
-fn run(text: &[u8], book: &mut [u32], session: &mut [u32], line: &mut [u8], out: &mut [u8])
+fn run(
+    rt: &(impl Input + Print),
+    text: &[u8],
+    book: &mut [u32],
+    session: &mut [u32],
+    line: &mut [u8],
+    out: &mut [u8],
+)
     requires { Lends book.old session.old line.old out.old }
 {
     match dialog::start(text, book, session, out) {
         Started::Refused(n) => {
-            print(out, n);
+            print(rt, out, n);
         }
         Started::Open(n) => {
-            if print(out, n) {
-                answer_script(book, session, line, out);
+            if print(rt, out, n) {
+                answer_script(rt, book, session, line, out);
             }
         }
     }
 }
 
-fn main() {
+fn main(rt: HostRuntime) {
     let mut text = [0u8; MAX_TEXT + 1];
     let mut book = [0u32; MAX_BOOK];
     let mut session = [0u32; MAX_SESSION];
     let mut line = [0u8; MAX_LINE];
     let mut out = [0u8; MAX_ANSWER];
-    if let Text::Bytes(n) = read_text(&mut text) {
+    if let Text::Bytes(n) = read_text(&rt, &mut text) {
         if n <= text.len() {
-            run(&text[..n], &mut book, &mut session, &mut line, &mut out);
+            run(
+                &rt,
+                &text[..n],
+                &mut book,
+                &mut session,
+                &mut line,
+                &mut out,
+            );
         }
     }
 }

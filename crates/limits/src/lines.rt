@@ -7,28 +7,28 @@ use trials::rows::{find, number, wide};
 use trials::{messages, names, readings};
 
 // A trial says its label and what came.
-fn trial(base: &[u8], row: &[u8], kind: usize) {
-    messages::print_part(row, 1);
-    messages::print(messages::FIRST);
+fn trial(rt: &impl Print, base: &[u8], row: &[u8], kind: usize) {
+    messages::print_part(rt, row, 1);
+    messages::print(rt, messages::FIRST);
     match kind {
-        names::TEXT => readings::into(base, row, MAX_BOOK, false),
-        names::ROOM => readings::into(base, row, wide(number(row, b'|', 3)), true),
-        names::SESSION => sessions::session(row, &row[0..0]),
-        names::BASED => sessions::session(base, row),
-        _ => messages::print(messages::NO_NAME),
+        names::TEXT => readings::into(rt, base, row, MAX_BOOK, false),
+        names::ROOM => readings::into(rt, base, row, wide(number(row, b'|', 3)), true),
+        names::SESSION => sessions::session(rt, row, &row[0..0]),
+        names::BASED => sessions::session(rt, base, row),
+        _ => messages::print(rt, messages::NO_NAME),
     }
-    messages::print(messages::LINE_END);
+    messages::print(rt, messages::LINE_END);
 }
 
 // Empty lines and comments print nothing.
-fn line(base: &[u8], row: &[u8], kind: usize) {
+fn line(rt: &impl Print, base: &[u8], row: &[u8], kind: usize) {
     if byte_at(row, 0) > b'#' {
-        trial(base, row, kind);
+        trial(rt, base, row, kind);
     }
 }
 
 // Every line of a text. A base stands for the trials behind it, up to the next base.
-pub fn run(text: &[u8]) {
+pub fn run(rt: &impl Print, text: &[u8]) {
     let mut from = 0;
     let mut to = 0;
     let mut at = 0;
@@ -41,7 +41,7 @@ pub fn run(text: &[u8]) {
             from = start;
             to = end;
         } else {
-            line(&text[from..to], &text[start..end], kind);
+            line(rt, &text[from..to], &text[start..end], kind);
         }
     }
 }

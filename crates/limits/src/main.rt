@@ -5,9 +5,9 @@ mod lines;
 mod sessions;
 mod steps;
 
-ghost use Rattle.std.specs.Prelude.{◌≡◌, length};
+ghost use Rattle.std.specs.Prelude.{◌≡◌, ◌≤◌, length};
 
-use libc::STDIN_FILENO;
+use std::io::Read;
 use trials::messages;
 
 // The bytes that are read at once; the trials must be fewer.
@@ -20,13 +20,27 @@ fn zeros() -> [u8; INPUT]
     [0; INPUT]
 }
 
+// Reads until the space is full, the input ends or a read fails, and answers how many bytes there are.
+fn read_full(input: &mut impl Read, space: &mut [u8]) -> usize
+    ensures { result ≤ length space.new }
+{
+    let mut at = 0;
+    while at < space.len() {
+        match input.read(&mut space[at..]) {
+            Ok(n) if n > 0 => at += n,
+            _ => return at,
+        }
+    }
+    at
+}
+
 // Reads all trials at once. Where they fill the space the last line may be cut, so nothing is tried.
-fn main() {
+fn main(rt: HostRuntime) {
     let mut space = zeros();
-    let n = io::read_full(STDIN_FILENO, &mut space);
+    let n = read_full(&mut rt.reader(), &mut space);
     if n < INPUT {
-        lines::run(&space[0..n]);
+        lines::run(&rt, &space[0..n]);
     } else {
-        messages::print(messages::CUT);
+        messages::print(&rt, messages::CUT);
     }
 }

@@ -8,28 +8,43 @@ use trials::space::{SPACE, compare};
 use trials::{damage, messages, names};
 
 // A call on the numbers that are lent, with the literals that it implied.
-fn call_on(book: &[u32], session: &mut [u32], room: usize, step: &[u8], called: usize) -> u32 {
+fn call_on(
+    rt: &impl Print,
+    book: &[u32],
+    session: &mut [u32],
+    room: usize,
+    step: &[u8],
+    called: usize,
+) -> u32 {
     let a = number(step, b' ', 1);
     let b = number(step, b' ', 2);
     if room <= session.len() {
-        let listed = call(book, &mut session[0..room], step, called, a, b);
-        list_last(book, &session[0..room], wide(listed));
+        let listed = call(rt, book, &mut session[0..room], step, called, a, b);
+        list_last(rt, book, &session[0..room], wide(listed));
         return listed;
     }
-    messages::print(messages::CUT);
+    messages::print(rt, messages::CUT);
     0
 }
 
 // The same; a refusal must leave all numbers alone.
-fn call_kept(book: &[u32], session: &mut [u32; SPACE], room: usize, step: &[u8], called: usize) {
+fn call_kept(
+    rt: &impl Print,
+    book: &[u32],
+    session: &mut [u32; SPACE],
+    room: usize,
+    step: &[u8],
+    called: usize,
+) {
     let kept = *session;
-    if call_on(book, session, room, step, called) == WAS_REFUSED {
-        compare(session, &kept, 0);
+    if call_on(rt, book, session, room, step, called) == WAS_REFUSED {
+        compare(rt, session, &kept, 0);
     }
 }
 
 // Takes a step, and answers how many numbers the next calls are lent. An answer that is not the last is parted from the next one.
 pub fn take(
+    rt: &impl Print,
     book: &[u32],
     session: &mut [u32; SPACE],
     room: usize,
@@ -39,13 +54,13 @@ pub fn take(
     let called = name(step, b' ', 0);
     match called {
         names::WRITE => {
-            damage::write(book, session, step);
+            damage::write(rt, book, session, step);
             room
         }
         names::GIVE | names::SHORT | names::SPARE => { damage::room(book, step, called) }
         _ => {
-            call_kept(book, session, room, step, called);
-            messages::part_next(last);
+            call_kept(rt, book, session, room, step, called);
+            messages::part_next(rt, last);
             room
         }
     }

@@ -11,24 +11,30 @@ use trials::space::LENT_TOTAL;
 const MOST: usize = MAX_CLAUSES + 4;
 
 // The totals by chapter in lent totals.
-fn file(book: &[u32], session: &[u32], chapters: &[u32], totals: &mut [u64]) -> u32 {
-    answers::by_chapter(chapter_totals(book, session, chapters, totals), totals)
+fn file(
+    rt: &impl Print,
+    book: &[u32],
+    session: &[u32],
+    chapters: &[u32],
+    totals: &mut [u64],
+) -> u32 {
+    answers::by_chapter(rt, chapter_totals(book, session, chapters, totals), totals)
 }
 
 // The same in so many totals.
-fn file_in(book: &[u32], session: &[u32], chapters: &[u32], n: usize) -> u32 {
+fn file_in(rt: &impl Print, book: &[u32], session: &[u32], chapters: &[u32], n: usize) -> u32 {
     let mut space = [LENT_TOTAL; 64];
     if n <= 64 {
-        return file(book, session, chapters, &mut space[0..n]);
+        return file(rt, book, session, chapters, &mut space[0..n]);
     }
-    messages::print(messages::CUT);
+    messages::print(rt, messages::CUT);
     0
 }
 
 // The same with the chapters of a step: a list whose head word is how many totals are lent.
-pub(crate) fn totals(book: &[u32], session: &[u32], step: &[u8], n: usize) -> u32 {
+pub(crate) fn totals(rt: &impl Print, book: &[u32], session: &[u32], step: &[u8], n: usize) -> u32 {
     let mut chapters = [0u32; MOST];
     let from = behind(step);
-    let so_many = numbers(&step[from..], &mut chapters);
-    file_in(book, session, &chapters[0..so_many], n)
+    let so_many = numbers(rt, &step[from..], &mut chapters);
+    file_in(rt, book, session, &chapters[0..so_many], n)
 }

@@ -8,28 +8,28 @@ use trials::rows::behind;
 const LONG: usize = 5_242_880;
 
 // The quote for a script, whose bytes are put into a space.
-fn quote_in(book: &[u32], space: &mut [u8], script: &[u8]) -> u32 {
-    let n = script_of(space, script);
-    answers::quoted(quote_script(book, &space[0..n]))
+fn quote_in(rt: &impl Print, book: &[u32], space: &mut [u8], script: &[u8]) -> u32 {
+    let n = script_of(rt, space, script);
+    answers::quoted(rt, quote_script(book, &space[0..n]))
 }
 
 // The same in a large space.
-fn quote_long(book: &[u32], script: &[u8]) -> u32 {
+fn quote_long(rt: &impl Print, book: &[u32], script: &[u8]) -> u32 {
     let mut space = [0u8; LONG];
-    quote_in(book, &mut space, script)
+    quote_in(rt, book, &mut space, script)
 }
 
 // The same in a small space.
-fn quote_short(book: &[u32], script: &[u8]) -> u32 {
+fn quote_short(rt: &impl Print, book: &[u32], script: &[u8]) -> u32 {
     let mut space = [0u8; 256];
-    quote_in(book, &mut space, script)
+    quote_in(rt, book, &mut space, script)
 }
 
 // The quote for the script of a step.
-pub(crate) fn quoted(book: &[u32], step: &[u8]) -> u32 {
+pub(crate) fn quoted(rt: &impl Print, book: &[u32], step: &[u8]) -> u32 {
     let from = behind(step);
     if has_parts(&step[from..]) {
-        return quote_long(book, &step[from..]);
+        return quote_long(rt, book, &step[from..]);
     }
-    quote_short(book, &step[from..])
+    quote_short(rt, book, &step[from..])
 }

@@ -89,22 +89,22 @@ fn put_field(text: &mut [u8], at: usize, row: &[u8], byte: u8, k: u32, times: u3
 }
 
 // What bytes write, in a space. Answers its length.
-pub fn decode(space: &mut [u8], bytes: &[u8]) -> usize
+pub fn decode(rt: &impl Print, space: &mut [u8], bytes: &[u8]) -> usize
     ensures { result ≤ length space.old }
 {
     let n = put(space, 0, bytes);
-    fitting(n, space.len())
+    fitting(rt, n, space.len())
 }
 
 // The text of a row: field 2, field 3 as often as field 4 says, field 2 of a base as often as field 5 says, field 6. Answers its length.
-pub(crate) fn text(space: &mut [u8], base: &[u8], row: &[u8]) -> usize
+pub(crate) fn text(rt: &impl Print, space: &mut [u8], base: &[u8], row: &[u8]) -> usize
     ensures { result ≤ length space.old }
 {
     let head = put_field(space, 0, row, b'|', 2, 1);
     let pieces = put_field(space, head, row, b'|', 3, number(row, b'|', 4));
     let bases = put_field(space, pieces, base, b'|', 2, number(row, b'|', 5));
     let n = put_field(space, bases, row, b'|', 6, 1);
-    fitting(n, space.len())
+    fitting(rt, n, space.len())
 }
 
 // Whether a script has parts, parted by `*`, some of them repeated.
@@ -113,11 +113,11 @@ pub fn has_parts(script: &[u8]) -> bool {
 }
 
 // The bytes of a script: part 0, part 1 as often as part 2 says, part 3 as often as part 4 says. Answers how many they are.
-pub fn script_of(space: &mut [u8], script: &[u8]) -> usize
+pub fn script_of(rt: &impl Print, space: &mut [u8], script: &[u8]) -> usize
     ensures { result ≤ length space.old }
 {
     let head = put_field(space, 0, script, b'*', 0, 1);
     let pieces = put_field(space, head, script, b'*', 1, number(script, b'*', 2));
     let n = put_field(space, pieces, script, b'*', 3, number(script, b'*', 4));
-    fitting(n, space.len())
+    fitting(rt, n, space.len())
 }

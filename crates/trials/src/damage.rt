@@ -68,9 +68,9 @@ fn place(book: &[u32], part: usize, k: u32) -> usize {
 }
 
 // `write PART k x` stores x at place k of a part.
-pub fn write(book: &[u32], session: &mut [u32], step: &[u8]) {
+pub fn write(rt: &impl Print, book: &[u32], session: &mut [u32], step: &[u8]) {
     let at = place(book, name(step, b' ', 1), number(step, b' ', 2));
-    damage(session, at, number(step, b' ', 3));
+    damage(rt, session, at, number(step, b' ', 3));
 }
 
 // How many numbers the calls behind a step are lent: so many, or so many fewer or more than the required length.

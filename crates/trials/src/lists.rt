@@ -46,10 +46,10 @@ fn fill_all(out: &mut [u32], list: &[u8], first: usize) -> usize
 }
 
 // The numbers behind the head word; answers how many they are.
-pub fn numbers(list: &[u8], out: &mut [u32]) -> usize
+pub fn numbers(rt: &impl Print, list: &[u8], out: &mut [u32]) -> usize
     ensures { result ≤ length out.old }
 {
     let first = behind(list);
     let n = fill_all(out, list, first);
-    fitting(n, out.len())
+    fitting(rt, n, out.len())
 }

@@ -1,8 +1,7 @@
-// The words that trials print, each under a number, so that a caller passes numbers only.
+// The words that trials print, each under a number, so that a caller passes numbers only. That a write failed is not looked at.
 ghost use Rattle.std.specs.Prelude.{◌≤◌};
 
 use crate::rows::{part, wide};
-use libc::STDOUT_FILENO;
 
 pub const LINE_END: u32 = 0;
 
@@ -89,16 +88,17 @@ pub const BLANK: u32 = 40;
 pub const MINUS: u32 = 41;
 
 // Part k of the bytes, parted by `|`.
-pub fn print_part(bytes: &[u8], k: u32) {
+pub fn print_part(rt: &impl Print, bytes: &[u8], k: u32) {
     let span = part(bytes, b'|', k);
     let from = span.from;
     let to = span.to;
-    io::write_all(STDOUT_FILENO, &bytes[from..to]);
+    let _ = rt.write_all(&bytes[from..to]);
 }
 
 // One of the words above, which stand here in their order.
-pub fn print(word: u32) {
+pub fn print(rt: &impl Print, word: u32) {
     print_part(
+        rt,
         b"\n|: | / |, too long|, no such name|, no such place|, lent numbers changed|, out of form|, lent numbers untouched|\
         , the rest untouched|, numbers|refused |V | C | L |well formed|open|choose | forced |:| rule |back |\
         fixed |feature | open| wanted at level | barred at level |checks |choices | backs | trail |choices fixed |need |\
@@ -108,65 +108,65 @@ pub fn print(word: u32) {
 }
 
 // What parts an answer from the next one.
-pub fn part_next(last: bool) {
+pub fn part_next(rt: &impl Print, last: bool) {
     if !last {
-        print(NEXT);
+        print(rt, NEXT);
     }
 }
 
 // So many, where they fit; else that they do not is said, and as many as fit.
-pub(crate) fn fitting(n: usize, most: usize) -> usize
+pub(crate) fn fitting(rt: &impl Print, n: usize, most: usize) -> usize
     ensures { result ≤ most }
 {
     if n <= most {
         return n;
     }
-    print(CUT);
+    print(rt, CUT);
     most
 }
 
 // A word and a number.
-pub fn say(word: u32, number: u32) {
-    say_wide(word, wide(number));
+pub fn say(rt: &impl Print, word: u32, number: u32) {
+    say_wide(rt, word, wide(number));
 }
 
-pub fn say_wide(word: u32, number: usize) {
-    print(word);
-    io::print_decimal(STDOUT_FILENO, number as u64);
+pub fn say_wide(rt: &impl Print, word: u32, number: usize) {
+    print(rt, word);
+    let _ = print!(rt; "{number}");
 }
 
 // A word and a literal as a signed variable.
-pub fn say_literal(word: u32, literal: u32) {
-    print(word);
+pub fn say_literal(rt: &impl Print, word: u32, literal: u32) {
+    print(rt, word);
     if literal % 2 == 1 {
-        print(MINUS);
+        print(rt, MINUS);
     }
-    io::print_decimal(STDOUT_FILENO, (literal / 2) as u64);
+    let _ = print!(rt; "{}", literal / 2);
 }
 
 // The numbers, each behind a blank.
-pub fn say_numbers(numbers: &[u32]) {
+pub fn say_numbers(rt: &impl Print, numbers: &[u32]) {
     let mut i = 0;
     while i < numbers.len() {
-        say(BLANK, numbers[i]);
+        say(rt, BLANK, numbers[i]);
         i += 1;
     }
 }
 
 // The totals, each behind a blank.
-pub fn say_totals(totals: &[u64]) {
+pub fn say_totals(rt: &impl Print, totals: &[u64]) {
     let mut k = 0;
     while k < totals.len() {
-        say_wide(BLANK, totals[k] as usize);
+        say_wide(rt, BLANK, totals[k] as usize);
         k += 1;
     }
 }
 
 // The literals, each behind a blank.
-pub fn say_literals(literals: &[u32]) {
+pub fn say_literals(rt: &impl Print, literals: &[u32]) {
     let mut i = 0;
     while i < literals.len() {
-        say_literal(BLANK, literals[i]);
+        say_literal(rt, BLANK, literals[i]);
         i += 1;
     }
 }

@@ -84,7 +84,7 @@ fn place_among(names: &[u8], word: &[u8]) -> usize {
     let mut passed = 0;
     while at < names.len() {
         let end = find(names, at, b' ');
-        if check::same(&names[at..end], word) {
+        if &names[at..end] == word {
             return passed;
         }
         passed += 1;

@@ -19,11 +19,11 @@ pub(crate) fn store(numbers: &mut [u32], place: usize, number: u32) {
 }
 
 // Stores a number; that there is no such place is said.
-pub(crate) fn damage(numbers: &mut [u32], place: usize, number: u32) {
+pub(crate) fn damage(rt: &impl Print, numbers: &mut [u32], place: usize, number: u32) {
     if place < numbers.len() {
         numbers[place] = number;
     } else {
-        messages::print(messages::NO_PLACE);
+        messages::print(rt, messages::NO_PLACE);
     }
 }
 
@@ -48,15 +48,15 @@ fn same(numbers: &[u32], kept: &[u32], from: usize) -> bool {
 }
 
 // Numbers that must not change from a place on; that they did is said.
-pub fn compare(numbers: &[u32], kept: &[u32], from: usize) {
+pub fn compare(rt: &impl Print, numbers: &[u32], kept: &[u32], from: usize) {
     if !same(numbers, kept, from) {
-        messages::print(messages::CHANGED);
+        messages::print(rt, messages::CHANGED);
     }
 }
 
 // Numbers that must be as they were lent from a place on.
-pub fn untouched(numbers: &[u32], from: usize) {
-    compare(numbers, &numbers[0..0], from);
+pub fn untouched(rt: &impl Print, numbers: &[u32], from: usize) {
+    compare(rt, numbers, &numbers[0..0], from);
 }
 
 // All totals are as they were lent.
@@ -72,8 +72,8 @@ fn all_untouched(totals: &[u64]) -> bool {
 }
 
 // Totals that must be as they were lent; that they are not is said.
-pub fn totals_untouched(totals: &[u64]) {
+pub fn totals_untouched(rt: &impl Print, totals: &[u64]) {
     if !all_untouched(totals) {
-        messages::print(messages::CHANGED);
+        messages::print(rt, messages::CHANGED);
     }
 }
