@@ -91,7 +91,7 @@ written() {
         shift 3
     done
     (cd "$tree/crates/$crate" && rt check "${starts[@]}" --generated "$tree/written") > "$tree/log" 2>&1 || true
-    python3 tests/division/mir.py written "$crate" "$tree/written" > "$tree/mir" || { cat "$tree/log" >&2; exit 1; }
+    python3 tests/division/mir.py written "$crate" "$tree/written" crates/*/out/rlib/*.rlib > "$tree/mir" || { cat "$tree/log" >&2; exit 1; }
 }
 
 # lines FUNCTION FILE: what the file has of this function.

@@ -3,7 +3,7 @@
 `calls F G` for each function that it names, `divides F` where it does.
 
 usage: mir.py built [--with F=OPERATOR] RLIB..     the library's MIR, as a program that uses it is compiled of it
-       mir.py written CRATE FOLDER                 the same as text, also of a function that no proof covers
+       mir.py written CRATE FOLDER RLIB..          the same as text, also of a function that no proof covers; the libraries are those below the crate
 
 --with: the last operator of the function F is taken for this one. What is none of the operations listed here counts as a division, those on floats and on vectors among them,
 and a call whose function is not named as one of a function that is not there.
@@ -69,34 +69,43 @@ def built(name, body):
     return it
 
 
-def written(name, text):
-    it = Function(name)
-    of = {found[2] or "Symbol": found[1].replace(".proofs.", ".", 1).replace(".", "::") for found in re.finditer(r"(?m)^use Rattle\.(\S+)\.Symbol(?: as (\S+))?$", text)}
+def written(name, text, below):
+    it, of = Function(name), {}
+    for found in re.finditer(r"(?m)^use Rattle\.(\w+)\.proofs\.(\S+)\.Symbol(?: as (\S+))?$", text):
+        callee = "::".join([found[1], *found[2].split(".")])
+        # A function that its crate exports from a module has the name there.
+        exported = [one for one in below if one.startswith(found[1] + "::") and one.endswith("::" + found[2])]
+        of[found[3] or "Symbol"] = exported[0] if callee not in below and len(exported) == 1 else callee
     it.operators = [plain(found) for found in re.findall(r"Syntax\.op2\s+\(?Syntax\.(\w+)", text)]
     it.divides = len(it.operators) != text.count("Syntax.op2") or "Syntax.select" in text
     for word, callee in re.findall(r"Syntax\.(call\w*|foreign\w*)\s+([^\s]+)", text):
-        known = re.match(r"(Symbol'*)\.name$", callee)
+        known = re.match(r"(Symbol[\d']*)\.name$", callee)
         it.calls.append(of[known[1]] if word == "call" and known else "by-" + word)
     return it
 
 
+def functions_of(rlib):
+    with open(f"{rlib}/toolchain/mir.json", encoding="utf-8") as file:
+        return [(name, it["body"]) for name, it in json.load(file)]
+
+
 def main(kind, *words):
     if kind == "written":
-        crate, folder = words
+        crate, folder, *rlibs = words
+        below = {name for rlib in rlibs for name, _ in functions_of(rlib)}
         top = f"{folder}/Rattle-{crate}-proofs"
         for at, _, names in sorted(os.walk(top)):
             if at.endswith("/Code") and "Mir.antt" in names:
                 with open(f"{at}/Mir.antt", encoding="utf-8") as file:
-                    written("::".join([crate, *os.path.relpath(at, top).split("/")[:-1]]), file.read()).say()
+                    written("::".join([crate, *os.path.relpath(at, top).split("/")[:-1]]), file.read(), below).say()
         return
     with_operator = dict([words[1].split("=")]) if words[0] == "--with" else {}
     for rlib in words[2 if with_operator else 0 :]:
-        with open(f"{rlib}/toolchain/mir.json", encoding="utf-8") as file:
-            for name, it in json.load(file):
-                it = built(name, it["body"])
-                if name in with_operator:
-                    it.operators[-1] = plain(with_operator[name])
-                it.say()
+        for name, body in functions_of(rlib):
+            it = built(name, body)
+            if name in with_operator:
+                it.operators[-1] = plain(with_operator[name])
+            it.say()
 
 
 if __name__ == "__main__":
