@@ -1,4 +1,4 @@
-/* The proved engine for C: the functions of libcapi.a, which `rt staticlib capi` writes to target/staticlib/. */
+/* The proved engine for C: the functions of libcapi.a, which `rt lib` in crates/capi writes to crates/capi/out/. */
 #ifndef TARIFF_H
 #define TARIFF_H
 #include <stddef.h>

@@ -5,30 +5,15 @@
 set -euo pipefail
 cd "$(dirname "$0")/.."
 . tests/support/common.sh
-wrong=target/tests/division.wrong
-tree=$wrong/tree
-trap 'rm -rf "$tree"' EXIT
-
-# The operators on two operands that do not divide, as MIR is printed; any other one counts as a division, those on floats among them.
-harmless='add sub mul shl shr and or xor eq ne lt le withAddr offset ptrEq ptrNe ptrLt ptrLe'
+# Outside the checkout: `rt ci` refuses copies of crates and links in it.
+wrong=$(mktemp -d)
+trap 'rm -rf "$wrong"' EXIT
 
 # Both of these print the functions of a program: a line `function F`, `calls F G` for each function that it names, `divides F` where it does.
 
-# in_mir CRATE TREE: of a crate and what it links, in MIR.
+# in_mir [--with F=OPERATOR]: of all crates that are built, in MIR; of the function F the last operator is taken for this one.
 in_mir() {
-    { (cd "$2" && rt mir "$1") 2> "$wrong/mir.err" || { cat "$wrong/mir.err" >&2; return 1; }; } | awk -v harmless="$harmless" '
-        BEGIN { RS = "\\(fn-def "; n = split(harmless, names, " "); for (i = 1; i <= n; i++) fine[names[i]] }
-        NR > 1 {
-            split($0, quoted, "\""); name = quoted[2]; text = $0
-            print "function", name
-            while (match(text, /\(direct \(fnRef "[^"]*"/)) { print "calls", name, substr(text, RSTART + 16, RLENGTH - 17); text = substr(text, RSTART + RLENGTH) }
-            text = $0
-            while (match(text, /\(op2 \(?[A-Za-z0-9]+/)) {
-                operator = substr(text, RSTART + 5, RLENGTH - 5); sub(/^\(/, "", operator)
-                if (!(operator in fine)) print "divides", name
-                text = substr(text, RSTART + RLENGTH)
-            }
-        }'
+    python3 tests/division/mir.py built "$@" crates/*/out/rlib/*.rlib
 }
 
 # in_code FILE: of an object file or a library, in machine code. A call is a target by name or a relocation, but for constants and for the
@@ -83,23 +68,63 @@ holds() {
     echo "division: no division in the $1 of $said functions, from ${*:2} on"
 }
 
-# finds CRATE FILE FUNCTION ROOT EDIT: with this sed edit of a file of a crate its MIR divides below the root in this function and no other;
-# in none where the function is empty.
-finds() {
-    local said crate
-    rm -rf "$tree"
+# written TREE CRATE [FILE FUNCTION EDIT].. : a copy of the crate with these sed edits, of which `rt check` writes the MIR of these functions, proved or not.
+# Where an edit is empty the function is as it is.
+written() {
+    local tree=$wrong/$1 crate=$2 below part file starts=()
+    shift 2
     mkdir -p "$tree/crates"
-    cp crates.txt "$tree"
-    ln -s ../../.. "$tree/target"
-    for crate in crates/*; do ln -s "../../../../../$crate" "$tree/crates"; done
-    rm "$tree/crates/$1"
-    cp -r "crates/$1" "$tree/crates"
-    sed -E -i "$5" "$tree/crates/$1/src/$2"
-    cmp -s "crates/$1/src/$2" "$tree/crates/$1/src/$2" && { echo "division: an edit changes nothing: $5" >&2; exit 1; }
-    said=$(in_mir "$1" "$tree" | divides_below "$4")
+    for below in base book run layout engine; do
+        grep "^$below:" crates.txt >> "$tree/crates.txt"
+        mkdir -p "$tree/crates/$below/out"
+        for part in src specs proofs; do
+            [ ! -e "crates/$below/$part" ] || cp -r "crates/$below/$part" "$tree/crates/$below"
+        done
+        cp -r "crates/$below/out/rlib" "$tree/crates/$below/out"
+    done
+    while [ $# -gt 0 ]; do
+        file=$tree/crates/$crate/src/$1
+        cp "$file" "$tree/before"
+        sed -E -i "$3" "$file"
+        [ -z "$3" ] || ! cmp -s "$tree/before" "$file" || { echo "division: an edit changes nothing: $3" >&2; exit 1; }
+        starts+=(--start "${2#*::}")
+        shift 3
+    done
+    (cd "$tree/crates/$crate" && rt check "${starts[@]}" --generated "$tree/written") > "$tree/log" 2>&1 || true
+    python3 tests/division/mir.py written "$crate" "$tree/written" crates/*/out/rlib/*.rlib > "$tree/mir" || { cat "$tree/log" >&2; exit 1; }
+}
+
+# lines FUNCTION FILE: what the file has of this function.
+lines() {
+    grep -E "^[a-z]+ $1( |\$)" "$2"
+}
+
+# alike TREE FUNCTION..: as they are, these functions are the same in both forms of MIR.
+alike() {
+    local function
+    for function in "${@:2}"; do
+        diff <(lines "$function" "$wrong/mir" | sort) <(lines "$function" "$wrong/$1/mir" | sort) || { cat "$wrong/$1/log" >&2; exit 1; }
+    done
+}
+
+# finds TREE FUNCTION ROOT [FUNCTION]: with this function as that copy of its crate has it, the MIR divides below the root in it and in no other, or as the
+# last word says.
+finds() {
+    local said
+    lines "$2" "$wrong/$1/mir" > "$wrong/edited" || { echo "division: no MIR of $2" >&2; cat "$wrong/$1/log" >&2; exit 1; }
+    said=$({ grep -vE "^[a-z]+ $2( |\$)" "$wrong/mir"; cat "$wrong/edited"; } | divides_below "$3")
     said=$(sed '$d' <<< "$said")
-    [ "$said" = "$3" ] || { echo "division: found '$said' in place of '$3': $5" >&2; exit 1; }
-    [ -z "$3" ] || noticed=$((noticed + 1))
+    [ "$said" = "${4-$2}" ] || { echo "division: found '$said' in place of '${4-$2}': $1" >&2; exit 1; }
+    [ -z "$said" ] || noticed=$((noticed + 1))
+}
+
+# finds_operator OPERATOR FUNCTION [FUNCTION]: with this operator in this function the MIR of the engine's `decide` divides in it and in no other, or as the last word says.
+finds_operator() {
+    local said
+    said=$(in_mir --with "$2=$1" | divides_below engine::decide)
+    said=$(sed '$d' <<< "$said")
+    [ "$said" = "${3-$2}" ] || { echo "division: found '$said' in place of '${3-$2}': $1 in $2" >&2; exit 1; }
+    [ -z "$said" ] || noticed=$((noticed + 1))
 }
 
 # finds_code FUNCTION LANGUAGE OPTION.. <<< TEXT: of this text, compiled so, the machine code divides below `outer`, in this function and no other.
@@ -112,20 +137,37 @@ finds_code() {
     noticed=$((noticed + 1))
 }
 
-mkdir -p "$wrong"
 need_library
-in_mir engine . | holds MIR engine::open engine::decide
-in_code target/staticlib/libcapi.a | holds 'machine code' tariff_open tariff_decide
+in_mir > "$wrong/mir"
+holds MIR engine::open engine::decide < "$wrong/mir"
+in_code "${library[1]}" | holds 'machine code' tariff_open tariff_decide
 
 noticed=0
-finds layout values.rt layout::values::value_of layout::values::value_of 's,literal >> 1,literal / 2,'
-finds layout values.rt layout::values::parity layout::values::value_of 's,x - 2 \* \(x >> 1\),x % 2,'
-finds layout offsets.rt layout::offsets::clause_of_node layout::offsets::clause_of_node 's,\(wide\(node\) - 1\) >> 1,(wide(node) - 1) / 2,'
-finds engine scan.rt engine::scan::next_position engine::decide 's,^    0$,    (position + 1) % n,'
-finds engine scan.rt engine::scan::next_position engine::decide 's,^        return position \+ 1;,        let half: f64 = 3.0 / 2.0;\n&,'
-finds engine scan.rt engine::scan::scan_clause engine::decide 's,made \+= 1;,made /= 1;,'
-finds engine visit.rt engine::visit::seek engine::open 's,^    let c = clause_of_node\(node\);,    let c = clause_of_node(node) % 7;,'
-finds engine scan.rt '' engine::decide 's,^        return position \+ 1;,        return (position \& 255) + ((position | 1) ^ (position << 1)) - (position >> 1);,'
+finds_operator Div layout::values::value_of
+finds_operator Rem layout::values::value_of
+finds_operator FloatDiv layout::values::value_of
+finds_operator Unknown layout::values::value_of
+finds_operator Xor layout::values::value_of ''
+written layout layout values.rt layout::values::value_of '' values.rt layout::values::parity '' offsets.rt layout::offsets::clause_of_node ''
+alike layout layout::values::value_of layout::values::parity layout::offsets::clause_of_node
+written engine engine scan.rt engine::scan::next_position '' scan.rt engine::scan::scan_clause '' visit.rt engine::visit::seek ''
+alike engine engine::scan::next_position engine::scan::scan_clause engine::visit::seek
+written halves layout values.rt layout::values::value_of 's,literal >> 1,literal / 2,' \
+    values.rt layout::values::parity 's,x - 2 \* \(x >> 1\),x % 2,' \
+    offsets.rt layout::offsets::clause_of_node 's,\(wide\(node\) - 1\) >> 1,(wide(node) - 1) / 2,'
+finds halves layout::values::value_of layout::values::value_of
+finds halves layout::values::parity layout::values::value_of
+finds halves layout::offsets::clause_of_node layout::offsets::clause_of_node
+written rests engine scan.rt engine::scan::next_position 's,^    0$,    (position + 1) % n,' \
+    scan.rt engine::scan::scan_clause 's,made \+= 1;,made /= 1;,' \
+    visit.rt engine::visit::seek 's,^    let c = clause_of_node\(node\);,    let c = clause_of_node(node) % 7;,'
+finds rests engine::scan::next_position engine::decide
+finds rests engine::scan::scan_clause engine::decide
+finds rests engine::visit::seek engine::open
+written floats engine scan.rt engine::scan::next_position 's,^        return position \+ 1;,        let half: f64 = 3.0 / 2.0;\n&,'
+finds floats engine::scan::next_position engine::decide
+written harmless engine scan.rt engine::scan::next_position 's,^        return position \+ 1;,        return (position \& 255) + ((position | 1) ^ (position << 1)) - (position >> 1);,'
+finds harmless engine::scan::next_position engine::decide ''
 finds_code inner c -ffunction-sections <<< 'unsigned inner(unsigned a, unsigned b) { return a % b; } unsigned outer(unsigned a, unsigned b) { return inner(a, b) + 1; }'
 finds_code inner c <<< 'static unsigned inner(unsigned a, unsigned b) { return a / b; } unsigned outer(unsigned a, unsigned b) { return inner(a, b) + 1; }'
 finds_code outer c -mavx <<< 'double outer(double a, double b) { return a / b; }'

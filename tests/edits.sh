@@ -10,7 +10,7 @@ rows=$(awk -F'|' -v heading="$heading" '
     /^## / { inside = $0 == heading }
     inside && /^\|/ { n = split($(NF - 1), words, /[^a-z0-9_\/]+/); for (i = 1; i <= n; i++) if (words[i] ~ /^[a-z_]+\/[a-z0-9_]+$/) print words[i], NR }' "$document")
 tabled=$(cut -d' ' -f1 <<< "$rows" | sort -u)
-crates=$(cut -d: -f1 crates.txt | grep -v '^#' | paste -sd'|')
+crates=$(sed -nE 's,^([a-z_]+)[ :].*,\1,p' crates.txt | paste -sd'|')
 named=$(grep -oP "(?<![\w/.-])($crates)/[a-z0-9_]+(?![\w/]|\.\w)" "$document" | sort -u || true)
 edits=0
 wrong=0

@@ -1,12 +1,11 @@
 #!/usr/bin/env bash
-# Every folder of examples/ with tariff.cnf, script and output is run by target/bin/desk, whose answer must be the stored output.
+# Every folder of examples/ with tariff.cnf, script and output is run by `desk`, whose answer must be the stored output.
 set -euo pipefail
 cd "$(dirname "$0")/.."
-desk=$PWD/target/bin/desk
-if [ ! -x "$desk" ]; then
-    echo "target/bin/desk is missing: build it by \`rt check desk\`" >&2
-    exit 1
-fi
+. tests/support/common.sh
+
+need_program
+desk=$PWD/$program
 ran=0
 failed=0
 for folder in examples/*/; do

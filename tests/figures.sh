@@ -4,7 +4,7 @@ set -euo pipefail
 cd "$(dirname "$0")/.."
 
 count() { # the folder of each crate, the files' ending
-    find crates -path "*/$1/*" -name "*.$2" ! -path 'crates/trials/*' ! -path 'crates/trial_calls/*' ! -path 'crates/limits/*' ! -path 'crates/points/*' \
+    find crates/*/"$1" -name "*.$2" ! -path 'crates/trials/*' ! -path 'crates/trial_calls/*' ! -path 'crates/limits/*' ! -path 'crates/points/*' \
         -exec cat {} + | grep -cvE '^[[:space:]]*(--|//|$)|^[[:space:]]*(ghost )?use '
 }
 

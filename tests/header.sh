@@ -13,7 +13,9 @@ chapters=crates/chapters/src/lib.rt
 rating=(crates/rating/src/*.rt)
 bands=crates/bands/src/lib.rt
 packed=crates/packed/src/lib.rt
-wrong=target/tests/header.wrong
+# Outside the checkout: `rt ci` refuses a copy of a .rt file.
+wrong=$(mktemp -d)
+trap 'rm -rf "$wrong"' EXIT
 
 # Each of these prints a line `NAME PARAMETER.. -> RESULT` for each function of a file; a parameter is `part:bytes`, `part:numbers`,
 # `part:signed`, `part:mut-bytes`, `part:mut-numbers`, `part:mut-wides`, `part:mut-u32`, `part:mut-u64`, `part:mut-i64`, `u8`, `u32`, `i64` or `usize`; what is
@@ -26,7 +28,7 @@ code_of() {
 
 # The exported functions of a crate.
 exported() {
-    code_of "$1" | grep -oE '#\[no_mangle\] +pub extern "C" fn [^{]*' |
+    code_of "$1" | grep -oE '#\[unsafe\(no_mangle\)\] +pub extern "C" fn [^{]*' |
         sed -E 's/.* fn ([a-z_0-9]+) *\(([^)]*)\) *(-> *([a-z0-9]+))?.*/\1 \2 -> \4/' |
         sed -E 's/,? -> / -> /; s/([a-z_]+): *&\[u8\]/\1:bytes/g; s/([a-z_]+): *&\[u32\]/\1:numbers/g; s/([a-z_]+): *&\[i32\]/\1:signed/g;
                 s/([a-z_]+): *&mut \[u8\]/\1:mut-bytes/g; s/([a-z_]+): *&mut \[u32\]/\1:mut-numbers/g; s/([a-z_]+): *&mut \[u64\]/\1:mut-wides/g;
@@ -130,7 +132,6 @@ gcc -std=c11 -Wall -Wextra -Werror -fsyntax-only -x c "$header"
 g++ -std=c++17 -Wall -Wextra -Werror -fsyntax-only -x c++ "$header"
 same "$source" "$header" "$bench" "$steps_source" "$steps" >&2
 echo "header: $(exported "$source" | wc -l) functions, as $header and $bench declare them, and $(exported "$steps_source" | wc -l) steps, as $steps does"
-mkdir -p "$wrong"
 noticed=0
 notices "$header" tariff_total '/^uint64_t tariff_total/d'
 notices "$header" tariff_total 's,^uint64_t tariff_total,// &,'

@@ -1,18 +1,28 @@
 # Shared by the test scripts: the program under test, the build of a test program, its cases, and wrong programs that it must notice.
 
-program=target/bin/desk
+program=crates/desk/out/desk
 # A program that calls the library from C is compiled with the folder of tariff.h and the library itself.
-library=(-Iinclude target/staticlib/libcapi.a)
+library=(-Iinclude crates/capi/out/libcapi.a)
 sanitizers=(-O1 -fsanitize=address,undefined -fno-sanitize-recover=all)
 
+# need_program: `desk` is as `rt ci` has left it, or else `rt run` proves, builds and runs it.
 need_program() {
-    [ -x "$program" ] && return
-    echo "$0: $program is missing; build it by: rt check desk" >&2
-    exit 1
+    is_built "$program" || in_crate desk run
 }
 
+# need_library: `rt ci` proves the library and leaves no archive, which `rt lib` makes of what is proved.
 need_library() {
-    quiet rt staticlib capi
+    is_built "${library[1]}" || in_crate capi lib
+}
+
+# is_built FILE: it is there, and no file that it is made of or proved by is newer.
+is_built() {
+    [ -e "$1" ] && [ -z "$(find crates.txt crates/*/{src,specs,proofs} -newer "$1" -print -quit 2>/dev/null)" ]
+}
+
+# in_crate CRATE COMMAND: this command of `rt`, in the crate's folder, with no input.
+in_crate() {
+    (cd "crates/$1" && quiet rt "$2" </dev/null)
 }
 
 install_cadical() {
