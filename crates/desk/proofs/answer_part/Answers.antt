@@ -30,8 +30,7 @@ loop-at-smaller g c =
 
 pub loop-at-preserved : goal.loop-at-preserved
 loop-at-preserved g c =
-    let bytes : List ℕ = c.args.bytes.now in
-    (
+    let bytes : List ℕ = c.args.bytes.now in (
       (used _ _ _ _ _ bytes c.loop-at.at c.loop-at-test.true _ _ _ _ c.take-taken.ensures).1,
       one_more_lem _ _ bytes _ _ _ _ c.loop-at.at c.loop-at-test.true _ _ _ _ c.take-taken.ensures c.loop-at.invariant.1,
     )
