@@ -1,5 +1,5 @@
 -- The fixed decisions of every session that passes: they stay; the way back out of a conflict, and where there is none; what a fixing stores; an opening fixes nothing.
-use Prim.Native.Nat.{ℕ, ◌-◌, ◌≤◌}
+use Prim.Native.Nat.{ℕ, ◌≤◌}
 use native.Mathlib.Omega.{arith}
 use mathlib.Core.Path.{◌≡◌, refl, ap, sym, ◌∙◌}
 use mathlib.Core.Bool.{true, false, cond}

@@ -8,7 +8,7 @@ use lib.ListN.{length, get_or, set, length-set}
 use lib.Seq.{get_or-set_same, get_or-set_other}
 use Rattle.base.proofs.Bools.{alike, never}
 use Rattle.book.specs.Formula.{variable_of}
-use Rattle.run.specs.Trail.{Entry, opposite, literal_at, decisions, level, lowered, cut}
+use Rattle.run.specs.Trail.{Entry, opposite, literal_at, decisions, lowered, cut}
 use Rattle.book.proofs.SoundLaws.{literal_parts}
 use Rattle.run.proofs.Opposites.{opposite_variable}
 use Rattle.run.proofs.Trails.{place_new, place_true, rest_distinct, true_grows}

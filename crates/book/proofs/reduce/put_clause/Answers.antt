@@ -1,9 +1,8 @@
 use Prim.Native.Nat.{◌≤◌, ◌<◌}
-use mathlib.Core.Logic.{⊎_elim}
 use mathlib.Core.Path.{◌≡◌, sym, ◌∙◌}
 use native.Mathlib.Omega.{arith}
 use borrow.Author.Rules.{rules}
-use borrow.Author.Tests.{not-true, not-false}
+use borrow.Author.Tests.{not-true}
 use lib.ListN.{length}
 use Rattle.book.specs.Formula.{max_book}
 use Rattle.book.proofs.reduce.ClauseLaws.{put_none, put_short, variable_small, put_repeated, put_both_ways, put_new, put_all}

@@ -1,9 +1,8 @@
 use mathlib.Core.Path.{refl, sym, ◌∙◌}
-use mathlib.Core.Logic.{inl, inr, ⊎_elim}
+use mathlib.Core.Logic.{inl, inr}
 use native.Mathlib.Omega.{arith}
-use borrow.Author.Tests.{not-true, not-false}
+use borrow.Author.Tests.{not-true}
 use Rattle.engine.proofs.scan.Laws.{scanning_start, scanning_on, scanning_found, scanning_end}
-use Rattle.engine.proofs.scan.scan_clause.Reads as reads
 use Rattle.engine.proofs.scan.scan_clause.Goals as goal
 use Rattle.engine.proofs.scan.scan_clause.Goals.{then-not-is_watched+else-not-is_false, else-not-is_watched}
 

@@ -1,5 +1,5 @@
 use native.Mathlib.Omega.{arith}
-use mathlib.Core.Logic.{inl, inr, ⊎_elim}
+use mathlib.Core.Logic.{inl, inr}
 use Rattle.validation.proofs.fixpoint.Laws.{place_small, level_small, height_read_off, height_read_top, height_read_on}
 use Rattle.validation.proofs.fixpoint.height_of.Goals as goal
 use Rattle.validation.proofs.fixpoint.height_of.Goals.{then-below+else-level-session, else-below}
