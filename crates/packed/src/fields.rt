@@ -61,7 +61,8 @@ pub(crate) fn field_refusal(value: i64, bytes: usize, room: usize) -> u32
 fn sign_of(value: i64) -> u64
     ensures { result ≡ sign_of value }
 {
-    if value < 0 {
+    let minus = value < 0;
+    if minus {
         return 13;
     }
     12

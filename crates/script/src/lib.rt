@@ -26,13 +26,18 @@ pub enum Cause {
     Decision(u32),
 }
 
+// The byte that ends a line, and the sign of a negative number.
+const LINE_END: u8 = 10;
+
+const MINUS: u8 = 45;
+
 // Where the first line ends: as many bytes as stand before the first byte 10, or all.
 pub fn line_end(bytes: &[u8]) -> usize
     ensures { result ≡ length (line_bytes bytes.now) }
 {
     let mut i = 0;
     while i < bytes.len() {
-        if bytes[i] == 10 {
+        if bytes[i] == LINE_END {
             return i;
         }
         i += 1;
@@ -47,7 +52,7 @@ pub fn parse_line(line: &[u8]) -> Line
     if line.len() == 0 {
         return Line::Malformed;
     }
-    if line[0] == 45 {
+    if line[0] == MINUS {
         match book::number(&line[1..]) {
             book::Digits::Invalid => Line::Malformed,
             book::Digits::Value(variable) => Line::Choose(2 * variable + 1),

@@ -50,11 +50,14 @@ pub(crate) fn put_number(n: u64, at: usize, out: &mut [u8]) -> usize
     put(digit(n % 10), end, out)
 }
 
+// What is left of a negative literal by 2.
+const NEGATIVE: u32 = 1;
+
 // A literal as a signed variable.
 pub(crate) fn put_literal(literal: u32, at: usize, out: &mut [u8]) -> usize
     ensures { Appends out.old at out.new result (signed literal) }
 {
-    if literal % 2 == 1 {
+    if literal % 2 == NEGATIVE {
         let end = put(45, at, out);
         return put_number(wide(literal / 2), end, out);
     }

@@ -13,7 +13,8 @@ fn fix_refusal(book: &[u32], session: &[u32], f: u32) -> u32
     if refused != 0 {
         return refused;
     }
-    if session[CONFLICT] != 0 {
+    let ended = session[CONFLICT] != 0;
+    if ended {
         return 14;
     }
     if f < session[FIXED] {

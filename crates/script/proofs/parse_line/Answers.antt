@@ -34,12 +34,12 @@ overflow_mul-result-in-Value-number-2 c = omega (arith, value_below _ _ (sym c.i
 pub returns-in-Invalid : goal.returns-in-Invalid
 returns-in-Invalid c =
     let digits-signed : (d : Digits) → c.number.result ≡ d → d ≡ digits_of (drop 1 c.args.line.now) = λ d e. digits_behind 1 c.args.line.now _ (sym e ∙ c.number.ensures) in
-    sym (line_negative _ (omega arith) c.if-line-eq45.true ∙ numbered_invalid _ _ (digits-signed _ c.in-Invalid.is))
+    sym (line_negative _ (omega arith) c.if-line-eq-MINUS.true ∙ numbered_invalid _ _ (digits-signed _ c.in-Invalid.is))
 
 pub returns-in-Value : goal.returns-in-Value
 returns-in-Value c =
     let digits-signed : (d : Digits) → c.number.result ≡ d → d ≡ digits_of (drop 1 c.args.line.now) = λ d e. digits_behind 1 c.args.line.now _ (sym e ∙ c.number.ensures) in
-    sym (line_negative _ (omega arith) c.if-line-eq45.true ∙ numbered_value _ _ _ (digits-signed _ c.in-Value.is))
+    sym (line_negative _ (omega arith) c.if-line-eq-MINUS.true ∙ numbered_value _ _ _ (digits-signed _ c.in-Value.is))
 
 pub returns-in-Invalid-number : goal.returns-in-Invalid-number
 returns-in-Invalid-number c =
@@ -53,8 +53,8 @@ returns-in-Value-number c =
 
 pub returns-in-Invalid-number-2 : goal.returns-in-Invalid-number-2
 returns-in-Invalid-number-2 c =
-    sym (line_positive _ (omega arith) c.if-line-eq45.false c.if-line-eq98.false ∙ numbered_invalid _ _ (sym c.in-Invalid-number-2.is ∙ c.number-else-line-eq98.ensures))
+    sym (line_positive _ (omega arith) c.if-line-eq-MINUS.false c.if-line-eq98.false ∙ numbered_invalid _ _ (sym c.in-Invalid-number-2.is ∙ c.number-else-line-eq98.ensures))
 
 pub returns-in-Value-number-2 : goal.returns-in-Value-number-2
 returns-in-Value-number-2 c =
-    sym (line_positive _ (omega arith) c.if-line-eq45.false c.if-line-eq98.false ∙ numbered_value _ _ _ (sym c.in-Value-number-2.is ∙ c.number-else-line-eq98.ensures))
+    sym (line_positive _ (omega arith) c.if-line-eq-MINUS.false c.if-line-eq98.false ∙ numbered_value _ _ _ (sym c.in-Value-number-2.is ∙ c.number-else-line-eq98.ensures))

@@ -8,7 +8,7 @@ use Rattle.session.proofs.Statements.{statement_3}
 use Rattle.session.proofs.OpenLaws.{open_done, replay_refused, replay_numbers_lem, replay_done}
 use Rattle.session.proofs.ReplayLaws.{Replaying, replaying_none, replaying_decision, replaying_fixing, replaying_backtrack, replaying_all}
 use Rattle.session.proofs.replay.Goals as goal
-use Rattle.session.proofs.replay.Goals.{then-calls-i-eq0, else-calls-i-eq0+then-calls-i-eq2, else-calls-i-eq0+else-calls-i-eq2}
+use Rattle.session.proofs.replay.Goals.{then-decides, else-decides+then-fixes, else-decides+else-fixes}
 
 pub open_refusal-refused-requires : goal.open_refusal-refused-requires
 open_refusal-refused-requires c = tt
@@ -43,12 +43,6 @@ bounds-calls-i-in-loop-i c = omega arith
 pub decide-requires : goal.decide-requires
 decide-requires c = tt
 
-pub offset_bounds-calls-i-else-calls-i-eq0 : goal.offset_bounds-calls-i-else-calls-i-eq0
-offset_bounds-calls-i-else-calls-i-eq0 c = omega (arith, c.well_formed, c.loop-i-test.true)
-
-pub bounds-calls-i-else-calls-i-eq0 : goal.bounds-calls-i-else-calls-i-eq0
-bounds-calls-i-else-calls-i-eq0 c = omega (arith, c.loop-i-test.true)
-
 pub fix-requires : goal.fix-requires
 fix-requires c = tt
 
@@ -63,13 +57,13 @@ loop-i-smaller c = omega (arith, c.loop-i-test.true)
 
 pub loop-i-preserved : goal.loop-i-preserved
 loop-i-preserved c =
-    let joined : Replaying c.args.book.now c.args.calls.now c.open.new.session c.if-calls-i-eq0.session (c.loop-i.i + 2) = elim c.if-calls-i-eq0.branch [
-      | then-calls-i-eq0 w ↦
-          replaying_decision c.args.book.now c.args.calls.now c.open.new.session c.loop-i.session _ c.loop-i.i c.loop-i.invariant c.loop-i-test.true (ap length w.session-is ∙ w.decide.auto.session) w.if-calls-i-eq0.true (w.session-is ∙ w.decide.ensures.session_after)
-      | else-calls-i-eq0+then-calls-i-eq2 w ↦
-          replaying_fixing c.args.book.now c.args.calls.now c.open.new.session c.loop-i.session _ c.loop-i.i c.loop-i.invariant c.loop-i-test.true (ap length w.session-is ∙ w.fix.auto.session) w.if-calls-i-eq0.false w.if-calls-i-eq2.true (w.session-is ∙ w.fix.ensures.session_after)
-      | else-calls-i-eq0+else-calls-i-eq2 w ↦
-          replaying_backtrack c.args.book.now c.args.calls.now c.open.new.session c.loop-i.session _ c.loop-i.i c.loop-i.invariant c.loop-i-test.true (ap length w.session-is ∙ w.backtrack.auto.session) w.if-calls-i-eq0.false w.if-calls-i-eq2.false (w.session-is ∙ w.backtrack.ensures.session_after)
+    let joined : Replaying c.args.book.now c.args.calls.now c.open.new.session c.if-decides.session (c.loop-i.i + 2) = elim c.if-decides.branch [
+      | then-decides w ↦
+          replaying_decision c.args.book.now c.args.calls.now c.open.new.session c.loop-i.session _ c.loop-i.i c.loop-i.invariant c.loop-i-test.true (ap length w.session-is ∙ w.decide.auto.session) w.if-decides.true (w.session-is ∙ w.decide.ensures.session_after)
+      | else-decides+then-fixes w ↦
+          replaying_fixing c.args.book.now c.args.calls.now c.open.new.session c.loop-i.session _ c.loop-i.i c.loop-i.invariant c.loop-i-test.true (ap length w.session-is ∙ w.fix.auto.session) w.if-decides.false w.if-fixes.true (w.session-is ∙ w.fix.ensures.session_after)
+      | else-decides+else-fixes w ↦
+          replaying_backtrack c.args.book.now c.args.calls.now c.open.new.session c.loop-i.session _ c.loop-i.i c.loop-i.invariant c.loop-i-test.true (ap length w.session-is ∙ w.backtrack.auto.session) w.if-decides.false w.if-fixes.false (w.session-is ∙ w.backtrack.ensures.session_after)
     ] in
     joined
 

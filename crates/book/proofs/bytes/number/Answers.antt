@@ -7,8 +7,8 @@ use Rattle.book.proofs.bytes.number.Goals as goal
 pub returns-then-n-eq0 : goal.returns-then-n-eq0
 returns-then-n-eq0 c = word_too_short c.args.word.now c.if-n-eq0.true
 
-pub returns-then-n-gt9 : goal.returns-then-n-gt9
-returns-then-n-gt9 c = word_too_long c.args.word.now c.if-n-gt9.true
+pub returns-then-n-gt-MAX_DIGITS : goal.returns-then-n-gt-MAX_DIGITS
+returns-then-n-gt-MAX_DIGITS c = word_too_long c.args.word.now c.if-n-gt-MAX_DIGITS.true
 
 pub loop-i-init : goal.loop-i-init
 loop-i-init c = digits_start c.args.word.now

@@ -20,12 +20,12 @@ bounds-session-2 c =
     let none : 0 ≡ read_refusal (book) (session) = sym c.if-refused-ne0.false ∙ c.validate-refused.ensures in
     omega (arith, long (book) (session) (none))
 
-pub returns-then-session-ne0 : goal.returns-then-session-ne0
-returns-then-session-ne0 c =
+pub returns-then-ended : goal.returns-then-ended
+returns-then-ended c =
     let book : List ℕ = c.args.book.now in
     let session : List ℕ = c.args.session.now in
     let none : 0 ≡ read_refusal (book) (session) = sym c.if-refused-ne0.false ∙ c.validate-refused.ensures in
-    fix_in_conflict (book) (session) (none) _ c.if-session-ne0.true
+    fix_in_conflict (book) (session) (none) _ c.if-ended.true
 
 pub bounds-session-4 : goal.bounds-session-4
 bounds-session-4 c =
@@ -39,7 +39,7 @@ returns-then-f-session c =
     let book : List ℕ = c.args.book.now in
     let session : List ℕ = c.args.session.now in
     let none : 0 ≡ read_refusal (book) (session) = sym c.if-refused-ne0.false ∙ c.validate-refused.ensures in
-    fix_below (book) (session) (none) _ (omega (arith, c.if-session-ne0.false)) (omega (arith, c.if-f-session.true))
+    fix_below (book) (session) (none) _ (omega (arith, c.if-ended.false)) (omega (arith, c.if-f-session.true))
 
 pub bounds-session-1 : goal.bounds-session-1
 bounds-session-1 c =
@@ -53,11 +53,11 @@ returns-then-f-session-2 c =
     let book : List ℕ = c.args.book.now in
     let session : List ℕ = c.args.session.now in
     let none : 0 ≡ read_refusal (book) (session) = sym c.if-refused-ne0.false ∙ c.validate-refused.ensures in
-    fix_over (book) (session) (none) _ (omega (arith, c.if-session-ne0.false)) (omega (arith, c.if-f-session-2.true))
+    fix_over (book) (session) (none) _ (omega (arith, c.if-ended.false)) (omega (arith, c.if-f-session-2.true))
 
 pub returns : goal.returns
 returns c =
     let book : List ℕ = c.args.book.now in
     let session : List ℕ = c.args.session.now in
     let none : 0 ≡ read_refusal (book) (session) = sym c.if-refused-ne0.false ∙ c.validate-refused.ensures in
-    fix_within (book) (session) (none) _ (omega (arith, c.if-session-ne0.false)) (omega (arith, c.if-f-session.false)) (omega (arith, c.if-f-session-2.false))
+    fix_within (book) (session) (none) _ (omega (arith, c.if-ended.false)) (omega (arith, c.if-f-session.false)) (omega (arith, c.if-f-session-2.false))
