@@ -103,7 +103,8 @@ lines() {
 alike() {
     local function
     for function in "${@:2}"; do
-        diff <(lines "$function" "$wrong/mir" | sort) <(lines "$function" "$wrong/$1/mir" | sort) || { cat "$wrong/$1/log" >&2; exit 1; }
+        lines "$function" "$wrong/mir" > "$wrong/edited" || { echo "division: no MIR of $function" >&2; exit 1; }
+        diff <(sort "$wrong/edited") <(lines "$function" "$wrong/$1/mir" | sort) || { cat "$wrong/$1/log" >&2; exit 1; }
     done
 }
 

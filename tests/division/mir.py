@@ -5,8 +5,8 @@
 usage: mir.py built [--with F=OPERATOR] RLIB..     the library's MIR, as a program that uses it is compiled of it
        mir.py written CRATE FOLDER RLIB..          the same as text, also of a function that no proof covers; the libraries are those below the crate
 
---with: the last operator of the function F is taken for this one. What is none of the operations listed here counts as a division, those on floats and on vectors among them,
-and a call whose function is not named as one of a function that is not there.
+--with: the last operator of the function F is taken for this one. An operator that is not listed here counts as a division, those on floats and on vectors among them, and so
+does a step that is not, where it stands at the top of a body; a call whose function is not named counts as one of a function that is not there.
 """
 
 import json
