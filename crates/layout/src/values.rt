@@ -1,15 +1,15 @@
 // What session and book numbers say: the value of a literal, the level at a trail place, where a clause stands.
-ghost use Rattle.std.specs.Prelude.{◌≡◌, ◌+◌, ◌*◌, ◌-◌, ◌%◌, ◌≤◌, length, get_or, true};
+ghost use Rattle.std.specs.Prelude.{◌≡◌, ◌+◌, ◌*◌, ◌-◌, ◌%◌, ◌≤◌, ◌<◌, length, get_or, true};
 ghost use Rattle.book.specs.Formula.{max_variables, variable_of};
 ghost use Rattle.layout.specs.Layout.{TrailFits, value_slot, level_before};
 ghost use Rattle.layout.specs.Values.{value_read};
-ghost use Rattle.book.specs.Numbers.{clauses_of, clause_start, well_formed};
+ghost use Rattle.book.specs.Numbers.{clauses_of, clause_at, clause_start, well_formed};
 ghost use Rattle.run.specs.Trail as trails;
 
 use crate::offsets::{levels_at, value_slot};
 
 // The value of a literal.
-#[derive(Clone, Copy)]
+#[derive(Clone, Copy, Debug, PartialEq, Eq)]
 pub enum Value {
     Open,
     True,
@@ -87,4 +87,15 @@ pub fn clause_start(book: &[u32], c: usize) -> usize
     ensures { result ≡ clause_start book.now c }
 {
     wide(book[1]) + 4 + wide(book[3 + c])
+}
+
+// The literals of clause c, from 0.
+pub fn clause(book: &[u32], c: usize) -> &[u32]
+    requires book_value { well_formed book.now ≡ true }
+    requires c_bound { c < clauses_of book.now }
+    ensures { result.now ≡ clause_at book.now c }
+{
+    let start = clause_start(book, c);
+    let end = clause_start(book, c + 1);
+    &book[start..end]
 }
