@@ -9,7 +9,10 @@ use lib.Seq.{take_all, take-append-le, drop-cons, set_at, take-suc, append_snoc}
 use Rattle.base.specs.Lists.{copied}
 use Rattle.script.specs.Buffer.{fitting}
 use Rattle.script.specs.Answers.{signed, listed}
-use Rattle.script.specs.Inner.Writing.{BytesWritten, Appends}
+use Rattle.script.specs.declared.writing.Writer.{Writer}
+use Rattle.script.specs.Inner.Writing.{BytesWritten, Appends, Puts}
+use Rattle.std.specs.List.{flat_map}
+use Rattle.std.proofs.lemmas.List.{flat_map_more}
 
 module _ (buffer bytes now : List ℕ) (at : ℕ) (w : BytesWritten buffer bytes now at) where
   length-written : length now ≡ length buffer
@@ -80,64 +83,47 @@ bytes_written_none buffer =
     let none : take {A = ℕ} (length buffer) [] ≡ [] = take_all (length buffer) [] (omega arith) in
     record { holds = rw none; end = rw none }
 
--- a line that is written from the start
-pub line_written : {buffer after line : List ℕ} {r : ℕ} → Appends buffer 0 after r line
-    → (r ≡ fitting line buffer) × (after ≡ copied line buffer)
+-- what a writer puts: nothing, some bytes and then others, the same bytes by another name
+pub puts_none : (w : Writer) → Puts w w []
+puts_none w = record { same_buffer = refl; appended = appends_none w.out.now w.at }
+
+pub puts_both : {w v u : Writer} {xs ys : List ℕ} → Puts w v xs → Puts v u ys → Puts w u (xs ++ ys)
+puts_both p q = record { same_buffer = q.same_buffer ∙ p.same_buffer; appended = appends_both p.appended q.appended }
+
+pub puts_as : {w v : Writer} {xs ys : List ℕ} → xs ≡ ys → Puts w v xs → Puts w v ys
+puts_as e p = rw e at p
+
+-- one byte more of a source
+pub puts_more : {w v u : Writer} (source : List ℕ) (i : ℕ) → i < length source → Puts w v (take i source) → Puts v u (get_or source i 0 ∷ [])
+    → Puts w u (take (i + 1) source)
+puts_more source i h p q = rw (add-one i, take-suc source i 0 h) (puts_both p q)
+
+pub puts_whole : {w v : Writer} (source : List ℕ) (i : ℕ) → length source ≤ i → Puts w v (take i source) → Puts w v source
+puts_whole source i h p = rw (take_all i source h) at p
+
+-- a line that a writer puts from the start of a lent buffer
+pub line_written : {begun ended : Writer} {buffer line : List ℕ} → begun.out.now ≡ buffer → begun.at ≡ 0 → Puts begun ended line
+    → (ended.at ≡ fitting line buffer) × (ended.out.now ≡ copied line buffer)
 unfolding fitting copied
-line_written {buffer = buffer} {after = after} {line = line} {r = r} a =
-    let w : BytesWritten buffer line after r = a.more buffer [] (bytes_written_none buffer) in
+line_written {begun = begun} {ended = ended} {buffer = buffer} {line = line} whole none p =
+    let w : BytesWritten buffer line ended.out.now ended.at = p.appended.more buffer [] (rw (whole, none) (bytes_written_none buffer)) in
     (w.end, w.holds)
 
--- the first i bytes of a source are written
-pub record Putting (source before : List ℕ) (at : ℕ) (now : List ℕ) (end i : ℕ) : Type 0 where
-  pub within : i ≤ length source
-  pub so_far : Appends before at now end (take i source)
+-- a literal in a list
+abbrev pub listed_one : ℕ → List ℕ
+listed_one literal = 32 ∷ signed literal
 
-pub putting_none : (source before : List ℕ) (at : ℕ) → Putting source before at before at 0
-putting_none source before at = record { within = omega arith; so_far = appends_none before at }
-
-pub putting_more : (source before : List ℕ) (at : ℕ) (now : List ℕ) (end i : ℕ) (after : List ℕ) (r : ℕ) → Putting source before at now end i
-    → i < length source → Appends now end after r (get_or source i 0 ∷ []) → Putting source before at after r (i + 1)
-putting_more source before at now end i after r p h a =
-    record {
-      within = omega arith;
-      so_far =
-          rw (add-one i, take-suc source i 0 h)
-          (appends_both p.so_far a);
-    }
-
-pub putting_all : (source before : List ℕ) (at : ℕ) (now : List ℕ) (end i : ℕ) → Putting source before at now end i
-    → length source ≤ i → Appends before at now end source
-putting_all source before at now end i p h = rw (take_all i source h) at p.so_far
-
--- the first i literals of a list are written: what is left to write is the list of the others
-pub record Listing (literals before : List ℕ) (at : ℕ) (now : List ℕ) (end i : ℕ) : Type 0 where
-  pub within : i ≤ length literals
-  pub part : List ℕ
-  pub so_far : Appends before at now end part
-  pub rest : part ++ listed (drop i literals) ≡ listed literals
-
-pub listing_none : (literals before : List ℕ) (at : ℕ) → Listing literals before at before at 0
-listing_none literals before at = record { within = omega arith; part = []; so_far = appends_none before at; rest = refl }
-
-pub listing_more : (literals before : List ℕ) (at : ℕ) (now : List ℕ) (end i : ℕ) (after : List ℕ) (r : ℕ) → Listing literals before at now end i
-    → i < length literals → Appends now end after r (32 ∷ signed (get_or literals i 0)) → Listing literals before at after r (i + 1)
+listed_flat : (literals : List ℕ) → flat_map listed_one literals ++ (10 ∷ []) ≡ listed literals
 unfolding listed
-listing_more literals before at now end i after r p h a =
-    record {
-      within = omega arith;
-      part = p.part ++ (32 ∷ signed (get_or literals i 0));
-      so_far = appends_both p.so_far a;
-      rest =
-          rw (add-one i)
-          (append_assoc p.part (32 ∷ signed (get_or literals i 0)) (listed (drop (suc i) literals))
-          ∙ sym (ap (λ (ls : List ℕ). p.part ++ listed ls) (drop-cons literals i 0 h)) ∙ p.rest);
-    }
+listed_flat [] = refl
+listed_flat (l ∷ literals) = append_assoc (listed_one l) (flat_map listed_one literals) (10 ∷ []) ∙ ap (λ (ls : List ℕ). listed_one l ++ ls) (listed_flat literals)
 
-pub listing_all : (literals before : List ℕ) (at : ℕ) (now : List ℕ) (end i : ℕ) (after : List ℕ) (r : ℕ) → Listing literals before at now end i
-    → length literals ≤ i → Appends now end after r (10 ∷ []) → Appends before at after r (listed literals)
-unfolding listed
-listing_all literals before at now end i after r p h a =
-    let is : p.part ++ (10 ∷ []) ≡ listed literals
-    = sym (ap (λ (ls : List ℕ). p.part ++ listed ls) (drop_of_length-le literals h)) ∙ p.rest in
-    appends_as is (appends_both p.so_far a)
+pub puts_one_listed : {w v u : Writer} (literals : List ℕ) (i : ℕ) → i < length literals → Puts w v (flat_map listed_one (take i literals))
+    → Puts v u (listed_one (get_or literals i 0)) → Puts w u (flat_map listed_one (take (i + 1) literals))
+puts_one_listed literals i h p q =
+    rw (add-one i, take-suc literals i 0 h)
+    (puts_as (flat_map_more listed_one [] (take i literals) (get_or literals i 0)) (puts_both p q))
+
+pub puts_listed : {w v u : Writer} (literals : List ℕ) (i : ℕ) → length literals ≤ i → Puts w v (flat_map listed_one (take i literals))
+    → Puts v u (10 ∷ []) → Puts w u (listed literals)
+puts_listed literals i h p q = puts_as (listed_flat literals) (puts_both (rw (take_all i literals h) at p) q)
