@@ -27,12 +27,12 @@ returns-in-End c =
     let stepped : (word : LineWord) → c.next_in_line.result ≡ word → SteppedInLine c.args.text.now c.args.cursor.at word = λ word e. subst (SteppedInLine c.args.text.now c.args.cursor.at) e c.next_in_line.ensures in
     none (stepped _ c.in-End.is)
 
-pub returns-in-Value : goal.returns-in-Value
-returns-in-Value c =
+pub returns-in-Some : goal.returns-in-Some
+returns-in-Some c =
     let stepped : (word : LineWord) → c.next_in_line.result ≡ word → SteppedInLine c.args.text.now c.args.cursor.at word = λ word e. subst (SteppedInLine c.args.text.now c.args.cursor.at) e c.next_in_line.ensures in
-    field_passes _ _ _ _ _ (stepped _ c.in-Word.is) (word_unsigned _ _ (sym c.in-Value.is ∙ c.number.ensures))
+    field_passes _ _ _ _ _ (stepped _ c.in-Word.is) (word_unsigned _ _ (sym c.in-Some.is ∙ c.number.ensures))
 
-pub returns-in-Invalid : goal.returns-in-Invalid
-returns-in-Invalid c =
+pub returns-in-None : goal.returns-in-None
+returns-in-None c =
     let stepped : (word : LineWord) → c.next_in_line.result ≡ word → SteppedInLine c.args.text.now c.args.cursor.at word = λ word e. subst (SteppedInLine c.args.text.now c.args.cursor.at) e c.next_in_line.ensures in
-    other _ (stepped _ c.in-Word.is) (word_not_unsigned _ (sym c.in-Invalid.is ∙ c.number.ensures))
+    other _ (stepped _ c.in-Word.is) (word_not_unsigned _ (sym c.in-None.is ∙ c.number.ensures))
