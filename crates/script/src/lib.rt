@@ -12,60 +12,43 @@ ghost use Rattle.script.specs.Answers.{implied_line, clause_line, back_line, ref
 use crate::writing::Writer;
 
 // What a line of the script asks for: a decision of a literal, or a backtrack.
-#[derive(Clone, Copy)]
+#[derive(Clone, Copy, Debug, PartialEq, Eq)]
 pub enum Line {
     Choose(u32),
     Back(u32),
-    Malformed,
 }
 
 // The call that a line answers, if it propagates.
-#[derive(Clone, Copy)]
+#[derive(Clone, Copy, Debug, PartialEq, Eq)]
 pub enum Cause {
     Opening,
     Decision(u32),
 }
 
-// The byte that ends a line, and the sign of a negative number.
-const LINE_END: u8 = 10;
-
-const MINUS: u8 = 45;
+// The byte that ends a line.
+const LINE_END: u8 = b'\n';
 
 // Where the first line ends: as many bytes as stand before the first byte 10, or all.
 pub fn line_end(bytes: &[u8]) -> usize
     ensures { result ≡ length (line_bytes bytes.now) }
 {
-    bytes.iter().position(|b| *b == LINE_END).unwrap_or(bytes.len())
+    bytes
+        .iter()
+        .position(|b| *b == LINE_END)
+        .unwrap_or(bytes.len())
 }
 
-// Reads one line, without its byte 10.
-pub fn parse_line(line: &[u8]) -> Line
+// Reads one line, without its byte 10; a malformed line asks for nothing.
+#[tactic(auto, using(book::proofs::DecimalLaws::value_below))]
+pub fn parse_line(line: &[u8]) -> Option<Line>
     ensures { result ≡ line_of line.now }
 {
-    if line.len() == 0 {
-        return Line::Malformed;
-    }
-    if line[0] == MINUS {
-        match book::number(&line[1..]) {
-            book::Digits::Invalid => Line::Malformed,
-            book::Digits::Value(variable) => Line::Choose(2 * variable + 1),
-        }
-    } else if line[0] == 98 {
-        if line.len() == 1 {
-            return Line::Malformed;
-        }
-        if line[1] != 32 {
-            return Line::Malformed;
-        }
-        match book::number(&line[2..]) {
-            book::Digits::Invalid => Line::Malformed,
-            book::Digits::Value(k) => Line::Back(k),
-        }
+    if let Some(digits) = line.strip_prefix(b"-") {
+        Some(Line::Choose(2 * book::number(digits)? + 1))
+    } else if let Some(digits) = line.strip_prefix(b"b ") {
+        Some(Line::Back(book::number(digits)?))
     } else {
-        match book::number(line) {
-            book::Digits::Invalid => Line::Malformed,
-            book::Digits::Value(variable) => Line::Choose(2 * variable),
-        }
+        Some(Line::Choose(2 * book::number(line)?))
     }
 }
 

@@ -3,10 +3,7 @@ ghost use Rattle.std.specs.Prelude.{◌≡◌, ◌+◌, ◌<◌, [], ◌∷◌};
 ghost use Rattle.script.specs.Answers.{numeral, signed, listed, call_words};
 ghost use Rattle.script.specs.Inner.Writing.{Puts};
 
-use crate::Cause;
-
-// The byte that ends a line, and the sign of a negative literal.
-const LINE_END: u8 = 10;
+use crate::{Cause, LINE_END};
 
 // A lent buffer, and the end of what is written to it.
 #[derive(Drop)]
@@ -25,7 +22,7 @@ impl<'a> Writer<'a> {
         Writer { out, at: 0 }
     }
 
-    // A full buffer stays as it is.
+    // One byte; a full buffer stays as it is.
     pub(crate) fn put(&mut self, byte: u8)
         ensures { Puts self.old self.new (byte ∷ []) }
     {
@@ -35,6 +32,7 @@ impl<'a> Writer<'a> {
         }
     }
 
+    // Bytes as they stand.
     pub(crate) fn put_all(&mut self, bytes: &[u8])
         ensures { Puts self.old self.new bytes.now }
     {
@@ -43,6 +41,7 @@ impl<'a> Writer<'a> {
         }
     }
 
+    // A number in decimal.
     pub(crate) fn put_number(&mut self, n: u64)
         ensures { Puts self.old self.new (numeral n) }
     {

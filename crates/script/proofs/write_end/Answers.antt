@@ -9,7 +9,7 @@ pub returns : goal.returns
 unfolding bytes end_line
 returns c =
     let puts : Puts c.new-line.result c.put.new.self (end_line c.args.decisions c.args.backtracks c.args.checks) =
-        puts_both c.put_all.ensures (puts_both (rw c.from.ensures at c.put_number.ensures) (puts_both c.put_all-2.ensures (puts_both (rw c.from-2.ensures at c.put_number-2.ensures) (puts_both c.put_all-3.ensures (puts_both c.put_number-3.ensures c.put.ensures))))) in
+    puts_both c.put_all.ensures (puts_both (rw c.from.ensures at c.put_number.ensures) (puts_both c.put_all-2.ensures (puts_both (rw c.from-2.ensures at c.put_number-2.ensures) (puts_both c.put_all-3.ensures (puts_both c.put_number-3.ensures c.put.ensures))))) in
     let same_buffer = puts.same_buffer ∙ c.new-line.ensures.same_buffer in
     let written = line_written c.new-line.ensures.bytes c.new-line.ensures.end puts in
     record { value = written.0; out_after = search rules }

@@ -9,7 +9,7 @@ pub returns : goal.returns
 unfolding bytes implied_line
 returns c =
     let puts : Puts c.new-line.result c.put_listed.new.self (implied_line c.args.cause c.args.literals.now) =
-        puts_both c.put_cause.ensures (puts_both c.put_all.ensures (puts_both c.put_number.ensures (puts_both c.put.ensures c.put_listed.ensures))) in
+    puts_both c.put_cause.ensures (puts_both c.put_all.ensures (puts_both c.put_number.ensures (puts_both c.put.ensures c.put_listed.ensures))) in
     let same_buffer = puts.same_buffer ∙ c.new-line.ensures.same_buffer in
     let written = line_written c.new-line.ensures.bytes c.new-line.ensures.end puts in
     record { value = written.0; out_after = search rules }

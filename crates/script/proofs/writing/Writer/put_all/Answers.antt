@@ -1,4 +1,3 @@
-use borrow.Author.Rules.{rules}
 use Rattle.script.proofs.writing.Laws.{puts_none, puts_more, puts_whole}
 use Rattle.script.proofs.writing.Writer.put_all.Goals as goal
 
