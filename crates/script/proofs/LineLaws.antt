@@ -1,62 +1,78 @@
--- What a line asks for, by its first bytes and the number behind them.
+-- What a line asks for, by the bytes that it begins with and the number behind them.
 use Prim.Native.Nat.{ℕ, ◌+◌, ◌*◌, ◌<◌}
-use mathlib.Core.Path.{◌≡◌, refl}
+use mathlib.Core.Path.{◌≡◌, refl, sym, ap, ◌∙◌}
+use mathlib.Core.Bool.{Bool, true, false, cond, ◌&&◌}
 use mathlib.Core.List.{List, [], ◌∷◌}
 use native.Mathlib.Omega.{arith}
-use borrow.Author.Tests.{eq-eqb, ne_eqb}
-use lib.ListN.{length, get_or, drop}
+use borrow.Author.Tests.{eqb-true, ne_eqb}
+use lib.Dec.{eqb}
+use lib.ListN.{length, take, drop}
+use lib.Pointwise.{pointwise}
+use Rattle.std.specs.Prelude.{Option, Some, None}
+use Rattle.std.specs.Option.{option_map}
+use Rattle.base.specs.Lists.{all}
+use Rattle.base.proofs.Bools.{and_parts}
+use Rattle.book.specs.Text.{unsigned, decimal}
 use Rattle.book.specs.Answer.{digits_of}
-use Rattle.book.specs.declared.bytes.Digits.TheVariants.{Value, Invalid}
-use Rattle.book.proofs.DecimalLaws.{word_unsigned, word_not_unsigned}
+use Rattle.book.proofs.DecimalLaws.{digit_false, unsigned_false, word_too_short, word_too_long}
 use Rattle.script.specs.declared.Line.{Line}
-use Rattle.script.specs.declared.Line.TheVariants.{Choose, Back, Malformed}
+use Rattle.script.specs.declared.Line.TheVariants.{Choose, Back}
 use Rattle.script.specs.Script.{numbered, back_of, line_of}
 
-module _ (asks : ℕ → Line) (digits : List ℕ) where
-  pub numbered_value : (v : ℕ) → Value v ≡ digits_of digits → numbered asks digits ≡ asks v
-  unfolding numbered
-  numbered_value v e = rw ((word_unsigned digits v e).0, (word_unsigned digits v e).1)
+-- a line asks for what its number says
+numbered_as : (asks : ℕ → Line) (digits : List ℕ) → option_map asks (digits_of digits) ≡ numbered asks digits
+unfolding numbered
+numbered_as asks digits = go (unsigned digits)
+  where
+    go : (u : Bool) → option_map asks (cond u (Some (decimal 0 digits)) None) ≡ cond u (Some (asks (decimal 0 digits))) None
+    go true = refl
+    go false = refl
 
-  pub numbered_invalid : Invalid ≡ digits_of digits → numbered asks digits ≡ Malformed
-  unfolding numbered
-  numbered_invalid e = rw (word_not_unsigned digits e)
+pub numbered_long : (asks : ℕ → Line) (digits : List ℕ) → 9 < length digits → numbered asks digits ≡ None
+numbered_long asks digits h = sym (ap (option_map asks) (word_too_long digits h) ∙ numbered_as asks digits)
 
-pub line_empty : (line : List ℕ) → length line ≡ 0 → line_of line ≡ Malformed
-unfolding line_of
-line_empty [] h = refl
-line_empty (b ∷ line) h = absurd (omega arith)
+-- The line begins with `-`; with `b` and a blank; with neither.
+module _ (digits : List ℕ) (n : Option ℕ) (read : n ≡ digits_of digits) where
+  asked : (asks : ℕ → Line) → option_map asks n ≡ numbered asks digits
+  asked asks = ap (option_map asks) read ∙ numbered_as asks digits
 
-pub line_negative : (line : List ℕ) → 0 < length line → get_or line 0 0 ≡ 45
-    → line_of line ≡ numbered (λ (v : ℕ). Choose (2 * v + 1)) (drop 1 line)
-unfolding line_of
-line_negative [] h e = absurd (omega arith)
-line_negative (b ∷ line) h e = rw (eq-eqb b 45 e)
+  pub line_negative : (line : List ℕ) → pointwise eqb (take 1 line) (45 ∷ []) ≡ true → digits ≡ drop 1 line
+      → option_map (λ (v : ℕ). Choose (2 * v + 1)) n ≡ line_of line
+  unfolding line_of
+  line_negative [] begins behind = absurd (cc)
+  line_negative (b ∷ bytes) begins behind = rw ((and_parts (eqb b 45) true begins).0, ← behind) (asked (λ (v : ℕ). Choose (2 * v + 1)))
 
-pub line_back : (line : List ℕ) → 0 < length line → get_or line 0 0 ≡ 98 → line_of line ≡ back_of (drop 1 line)
-unfolding line_of
-line_back [] h e = absurd (omega arith)
-line_back (b ∷ line) h e = rw (ne_eqb b 45 (λ q. omega arith), eq-eqb b 98 e)
+  pub line_back : (line : List ℕ) → pointwise eqb (take 2 line) (98 ∷ 32 ∷ []) ≡ true → digits ≡ drop 2 line
+      → option_map (λ (k : ℕ). Back k) n ≡ line_of line
+  unfolding line_of back_of
+  line_back [] begins behind = absurd (cc)
+  line_back (b ∷ []) begins behind = let none = (and_parts (eqb b 98) false begins).1 in absurd (cc)
+  line_back (b ∷ c ∷ bytes) begins behind =
+      let first = and_parts (eqb b 98) (eqb c 32 && true) begins in
+      let second = and_parts (eqb c 32) true first.1 in
+      let other : eqb b 45 ≡ false = ne_eqb b 45 (λ q. omega (arith, eqb-true b 98 first.0)) in
+      rw (other, first.0, second.0, ← behind) (asked (λ (k : ℕ). Back k))
 
-pub line_positive : (line : List ℕ) → 0 < length line → (get_or line 0 0 ≡ 45 → ⊥) → (get_or line 0 0 ≡ 98 → ⊥)
-    → line_of line ≡ numbered (λ (v : ℕ). Choose (2 * v)) line
-unfolding line_of
-line_positive [] h n m = absurd (omega arith)
-line_positive (b ∷ line) h n m = rw (ne_eqb b 45 n, ne_eqb b 98 m)
+-- a word that begins with `b` is no number, and without a blank behind it the line is malformed
+b_no_number : (b : ℕ) (bytes : List ℕ) → b ≡ 98 → digits_of (b ∷ bytes) ≡ None
+unfolding all
+b_no_number b bytes e = rw (unsigned_false (b ∷ bytes) (rw (digit_false b (λ h. omega arith))))
 
-pub back_malformed : (line : List ℕ) → length line ≡ 1 → back_of (drop 1 line) ≡ Malformed
+alone : (t : Bool) → (t && true) ≡ false → t ≡ false
+alone true e = e
+alone false e = refl
+
+no_blank : (b : ℕ) (bytes : List ℕ) → eqb b 98 ≡ true → pointwise eqb (take 2 (b ∷ bytes)) (98 ∷ 32 ∷ []) ≡ false → back_of bytes ≡ None
 unfolding back_of
-back_malformed [] h = refl
-back_malformed (b ∷ []) h = refl
-back_malformed (b ∷ c ∷ line) h = absurd (omega arith)
+no_blank b [] first back = refl
+no_blank b (c ∷ bytes) first back = rw (alone (eqb c 32) (rw first at back))
 
-pub back_unparted : (line : List ℕ) → (get_or line 1 0 ≡ 32 → ⊥) → back_of (drop 1 line) ≡ Malformed
-unfolding back_of
-back_unparted [] n = refl
-back_unparted (b ∷ []) n = refl
-back_unparted (b ∷ c ∷ line) n = rw (ne_eqb c 32 n)
-
-pub back_parted : (line : List ℕ) → get_or line 1 0 ≡ 32 → back_of (drop 1 line) ≡ numbered (λ (k : ℕ). Back k) (drop 2 line)
-unfolding back_of
-back_parted [] e = absurd (omega arith)
-back_parted (b ∷ []) e = absurd (omega arith)
-back_parted (b ∷ c ∷ line) e = rw (eq-eqb c 32 e)
+pub line_positive : (line : List ℕ) (n : Option ℕ) → n ≡ digits_of line → pointwise eqb (take 1 line) (45 ∷ []) ≡ false
+    → pointwise eqb (take 2 line) (98 ∷ 32 ∷ []) ≡ false → option_map (λ (v : ℕ). Choose (2 * v)) n ≡ line_of line
+unfolding line_of
+line_positive [] n read minus back = ap (option_map _) (read ∙ sym (word_too_short [] refl))
+line_positive (b ∷ bytes) n read minus back = rw (alone (eqb b 45) minus) (go (eqb b 98) refl)
+  where
+    go : (t : Bool) → eqb b 98 ≡ t → option_map (λ (v : ℕ). Choose (2 * v)) n ≡ cond t (back_of bytes) (numbered (λ (v : ℕ). Choose (2 * v)) (b ∷ bytes))
+    go true first = ap (option_map _) (read ∙ b_no_number b bytes (eqb-true b 98 first)) ∙ sym (no_blank b bytes first back)
+    go false first = asked (b ∷ bytes) n read (λ (v : ℕ). Choose (2 * v))

@@ -8,20 +8,25 @@ use borrow.Author.Tests.{eq-eqb, ne_eqb, ltb-true, ltb-false}
 use lib.Dec.{ltb}
 use lib.ListN.{length, drop, length-append, drop_of_length-le}
 use lib.Seq.{take_all}
+use Rattle.std.specs.List.{AllWithin, HoldsAt}
+use Rattle.std.specs.Option.{MatchOption, unwrap_or}
+use Rattle.std.proofs.lemmas.Iterator.{index_from_first}
+use Rattle.std.proofs.Common.{Option}
 use Rattle.base.specs.Lists.{until}
 use Rattle.base.proofs.Until.{take-until}
 use Rattle.book.specs.Text.{line_end}
 use Rattle.book.specs.Reading.{onto}
 use Rattle.script.specs.Script.{script_lines, line_bytes}
 
--- the byte that ends a line
-pub byte_ends : (byte : ℕ) → byte ≡ 10 → line_end byte ≡ true
-unfolding line_end
-byte_ends byte e = eq-eqb byte 10 e
-
-pub byte_goes_on : (byte : ℕ) → (byte ≡ 10 → ⊥) → line_end byte ≡ false
-unfolding line_end
-byte_goes_on byte e = ne_eqb byte 10 e
+-- the first byte 10 ends the first line
+pub first_end : (bytes : List ℕ) (at : Option ℕ)
+    → MatchOption at (AllWithin (λ (byte : ℕ). byte ≡ 10 → ⊥) bytes 0 (length bytes)) (λ (i : ℕ). (i < length bytes) × HoldsAt (λ (byte : ℕ). byte ≡ 10) bytes i × AllWithin (λ (byte : ℕ). byte ≡ 10 → ⊥) bytes 0 i)
+    → unwrap_or at (length bytes) ≡ length (line_bytes bytes)
+unfolding line_end until
+first_end bytes at first =
+    sym
+    (index_from_first (λ (bytes : List ℕ). length (line_bytes bytes)) (λ (byte : ℕ). byte ≡ 10) (λ (byte : ℕ). byte ≡ 10 → ⊥) refl
+    (λ byte rest e. rw (eq-eqb byte 10 e)) (λ byte rest n. rw (ne_eqb byte 10 n) (omega arith)) bytes at first)
 
 -- the lines, with the bytes that have begun in front
 unfoldable pub joined : List ℕ → List (List ℕ) → List (List ℕ)

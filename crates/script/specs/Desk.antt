@@ -1,5 +1,5 @@
 -- The whole output of the script program, by the text of `tariff.cnf` and the script.
-use Rattle.std.specs.Prelude.{ℕ, suc, cond, List, [], ◌∷◌, ◌++◌, eqb, length}
+use Rattle.std.specs.Prelude.{ℕ, suc, cond, Option, Some, None, List, [], ◌∷◌, ◌++◌, eqb, length}
 use Rattle.base.specs.Lists.{sum}
 use Rattle.book.specs.Formula.{Formula}
 use Rattle.book.specs.Reading.{Judged, refused, accepted, read_text}
@@ -7,7 +7,7 @@ use Rattle.run.specs.Trail.{decisions}
 use Rattle.run.specs.Run.{Run, trail_behind, in_conflict, open_run, decide}
 use Rattle.run.specs.Calls.{decision, backtrack_by, decide_refusal, backtrack_refusal, step}
 use Rattle.script.specs.declared.Line.{Line}
-use Rattle.script.specs.declared.Line.TheVariants.{Choose, Back, Malformed}
+use Rattle.script.specs.declared.Line.TheVariants.{Choose, Back}
 use Rattle.script.specs.declared.Cause.{Cause}
 use Rattle.script.specs.declared.Cause.TheVariants.{Opening, Decision}
 use Rattle.script.specs.Script.{script_lines, line_of}
@@ -22,17 +22,17 @@ unfoldable pub unless_refused : ℕ → List ℕ → List ℕ
 unless_refused refusal line = cond (eqb refusal 0) line (refused_line refusal)
 
 -- the answer to a line in the run's own state
-unfoldable pub answer_to : Formula → Run → Line → List ℕ
-answer_to formula run (Choose l) =
+unfoldable pub answer_to : Formula → Run → Option Line → List ℕ
+answer_to formula run (Some (Choose l)) =
     unless_refused (decide_refusal formula l run) (propagated_line (Decision l) (suc (length run.trail)) (decide formula l run))
-answer_to formula run (Back k) = unless_refused (backtrack_refusal k run) (back_line k)
-answer_to formula run Malformed = refused_line 18
+answer_to formula run (Some (Back k)) = unless_refused (backtrack_refusal k run) (back_line k)
+answer_to formula run None = refused_line 18
 
 -- the run behind a line
-unfoldable pub step_of : Formula → Run → Line → Run
-step_of formula run (Choose l) = step formula run (decision l)
-step_of formula run (Back k) = step formula run (backtrack_by k)
-step_of formula run Malformed = run
+unfoldable pub step_of : Formula → Run → Option Line → Run
+step_of formula run (Some (Choose l)) = step formula run (decision l)
+step_of formula run (Some (Back k)) = step formula run (backtrack_by k)
+step_of formula run None = run
 
 -- the last line where the script has led to a run: decisions in force, accepted backtracks, total checks
 abbrev pub end_line_of : Run → List ℕ

@@ -1,92 +1,88 @@
-// Bytes written one behind the other to a lent buffer: each function takes the end of what is written and answers the new end.
+// Bytes written one behind the other to a lent buffer, as far as they fit.
 ghost use Rattle.std.specs.Prelude.{◌≡◌, ◌+◌, ◌<◌, [], ◌∷◌};
 ghost use Rattle.script.specs.Answers.{numeral, signed, listed, call_words};
-ghost use Rattle.script.specs.Inner.Writing.{Appends};
+ghost use Rattle.script.specs.Inner.Writing.{Puts};
 
-use crate::Cause;
+use crate::{Cause, LINE_END};
 
-pub(crate) fn wide(x: u32) -> u64
-    ensures { result ≡ x }
-{
-    x as u64
+// A lent buffer, and the end of what is written to it.
+#[derive(Drop)]
+pub(crate) struct Writer<'a> {
+    out: &'a mut [u8],
+    pub(crate) at: usize,
 }
 
-pub(crate) fn put(byte: u8, at: usize, out: &mut [u8]) -> usize
-    ensures { Appends out.old at out.new result (byte ∷ []) }
-{
-    if out.len() <= at {
-        return at;
+impl<'a> Writer<'a> {
+    // Nothing is written yet.
+    pub(crate) fn new(out: &'a mut [u8]) -> Writer<'a>
+        ensures same_buffer { result.out.ghost_name ≡ out.entry.ghost_name }
+        ensures bytes { result.out.now ≡ out.old }
+        ensures end { result.at ≡ 0 }
+    {
+        Writer { out, at: 0 }
     }
-    out[at] = byte;
-    at + 1
-}
 
-pub(crate) fn put_all(bytes: &[u8], at: usize, out: &mut [u8]) -> usize
-    ensures { Appends out.old at out.new result bytes.now }
-{
-    let mut end = at;
-    let mut i = 0;
-    while i < bytes.len() {
-        end = put(bytes[i], end, out);
-        i += 1;
+    // One byte; a full buffer stays as it is.
+    pub(crate) fn put(&mut self, byte: u8)
+        ensures { Puts self.old self.new (byte ∷ []) }
+    {
+        if self.at < self.out.len() {
+            self.out[self.at] = byte;
+            self.at += 1;
+        }
     }
-    end
-}
 
-fn digit(n: u64) -> u8
-    requires { n < 10 }
-    ensures { result ≡ 48 + n }
-{
-    48 + n as u8
-}
-
-pub(crate) fn put_number(n: u64, at: usize, out: &mut [u8]) -> usize
-    ensures { Appends out.old at out.new result (numeral n) }
-{
-    if n < 10 {
-        return put(digit(n), at, out);
+    // Bytes as they stand.
+    pub(crate) fn put_all(&mut self, bytes: &[u8])
+        ensures { Puts self.old self.new bytes.now }
+    {
+        for &byte in bytes {
+            self.put(byte);
+        }
     }
-    let end = put_number(n / 10, at, out);
-    put(digit(n % 10), end, out)
-}
 
-// What is left of a negative literal by 2.
-const NEGATIVE: u32 = 1;
-
-// A literal as a signed variable.
-pub(crate) fn put_literal(literal: u32, at: usize, out: &mut [u8]) -> usize
-    ensures { Appends out.old at out.new result (signed literal) }
-{
-    if literal % 2 == NEGATIVE {
-        let end = put(45, at, out);
-        return put_number(wide(literal / 2), end, out);
+    // A number in decimal.
+    pub(crate) fn put_number(&mut self, n: u64)
+        ensures { Puts self.old self.new (numeral n) }
+    {
+        if n >= 10 {
+            self.put_number(n / 10);
+        }
+        self.put(b'0' + (n % 10) as u8);
     }
-    put_number(wide(literal / 2), at, out)
-}
 
-// Literals, each behind one blank, and the end of the line.
-pub(crate) fn put_listed(literals: &[u32], at: usize, out: &mut [u8]) -> usize
-    ensures { Appends out.old at out.new result (listed literals.now) }
-{
-    let mut end = at;
-    let mut i = 0;
-    while i < literals.len() {
-        let blank = put(32, end, out);
-        end = put_literal(literals[i], blank, out);
-        i += 1;
+    // A literal as a signed variable.
+    pub(crate) fn put_literal(&mut self, literal: u32)
+        ensures { Puts self.old self.new (signed literal) }
+    {
+        let negative = literal % 2 == 1;
+        if negative {
+            self.put(b'-');
+        }
+        self.put_number(u64::from(literal / 2));
     }
-    put(10, end, out)
-}
 
-// The words that begin the line of a call that propagated.
-pub(crate) fn put_cause(cause: Cause, at: usize, out: &mut [u8]) -> usize
-    ensures { Appends out.old at out.new result (call_words cause) }
-{
-    match cause {
-        Cause::Opening => put_all(b"open", at, out),
-        Cause::Decision(literal) => {
-            let end = put_all(b"choose ", at, out);
-            put_literal(literal, end, out)
+    // Literals, each behind one blank, and the end of the line.
+    pub(crate) fn put_listed(&mut self, literals: &[u32])
+        ensures { Puts self.old self.new (listed literals.now) }
+    {
+        for &literal in literals {
+            self.put(b' ');
+            self.put_literal(literal);
+        }
+        self.put(LINE_END);
+    }
+
+    // The words that begin the line of a call that propagated.
+    pub(crate) fn put_cause(&mut self, cause: Cause)
+        ensures { Puts self.old self.new (call_words cause) }
+    {
+        match cause {
+            Cause::Opening => self.put_all(b"open"),
+            Cause::Decision(literal) => {
+                self.put_all(b"choose ");
+                self.put_literal(literal);
+            }
         }
     }
 }

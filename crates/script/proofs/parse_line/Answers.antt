@@ -1,60 +1,32 @@
-use mathlib.Core.Path.{◌≡◌, sym, ◌∙◌}
-use native.Mathlib.Omega.{arith}
-use lib.ListN.{drop}
-use Rattle.book.specs.Answer.{digits_of}
-use Rattle.book.specs.declared.bytes.Digits.{Digits}
-use Rattle.book.proofs.DecimalLaws.{digits_behind, value_below}
-use Rattle.script.proofs.LineLaws.{numbered_value, numbered_invalid, line_empty, line_negative, line_back, line_positive, back_malformed, back_unparted, back_parted}
+use Rattle.std.specs.Prelude.{Some, None}
+use Rattle.script.proofs.LineLaws.{line_negative, line_back, line_positive}
 use Rattle.script.proofs.parse_line.Goals as goal
 
-pub returns-then-line-eq0 : goal.returns-then-line-eq0
-returns-then-line-eq0 c = sym (line_empty _ c.if-line-eq0.true)
+pub returns-in_err-number : goal.returns-in_err-number
+returns-in_err-number c =
+    let begins = c.in-Some.ensures.cases in
+    rw c.from_residual.ensures (line_negative _ None c.in_err-number.ensures _ begins.0 begins.1)
 
-pub overflow_mul-result : goal.overflow_mul-result
-overflow_mul-result c =
-    let digits-signed : (d : Digits) → c.number.result ≡ d → d ≡ digits_of (drop 1 c.args.line.now) = λ d e. digits_behind 1 c.args.line.now _ (sym e ∙ c.number.ensures) in
-    omega (arith, value_below _ _ (digits-signed _ c.in-Value.is))
+pub returns-in_ok-number : goal.returns-in_ok-number
+returns-in_ok-number c =
+    let begins = c.in-Some.ensures.cases in
+    line_negative _ (Some c.in_ok-number.field-0) c.in_ok-number.ensures _ begins.0 begins.1
 
-pub overflow_add-result : goal.overflow_add-result
-overflow_add-result c =
-    let digits-signed : (d : Digits) → c.number.result ≡ d → d ≡ digits_of (drop 1 c.args.line.now) = λ d e. digits_behind 1 c.args.line.now _ (sym e ∙ c.number.ensures) in
-    omega (arith, value_below _ _ (digits-signed _ c.in-Value.is))
+pub returns-in_err-number-2 : goal.returns-in_err-number-2
+returns-in_err-number-2 c =
+    let begins = c.in-Some-strip_prefix.ensures.cases in
+    rw c.from_residual-in_err-number-2.ensures (line_back _ None c.in_err-number-2.ensures _ begins.0 begins.1)
 
-pub returns-then-line-eq1 : goal.returns-then-line-eq1
-returns-then-line-eq1 c =
-    sym (line_back c.args.line.now (omega arith) c.if-line-eq98.true ∙ back_malformed c.args.line.now c.if-line-eq1.true)
+pub returns-in_ok-number-2 : goal.returns-in_ok-number-2
+returns-in_ok-number-2 c =
+    let begins = c.in-Some-strip_prefix.ensures.cases in
+    line_back _ (Some c.in_ok-number-2.field-0) c.in_ok-number-2.ensures _ begins.0 begins.1
 
-pub returns-then-line-ne32 : goal.returns-then-line-ne32
-returns-then-line-ne32 c =
-    sym (line_back c.args.line.now (omega arith) c.if-line-eq98.true ∙ back_unparted c.args.line.now c.if-line-ne32.true)
+pub returns-in_err-number-3 : goal.returns-in_err-number-3
+returns-in_err-number-3 c =
+    rw c.from_residual-in_err-number-3.ensures
+    (line_positive _ None c.in_err-number-3.ensures c.in_default.ensures.cases c.in_default-strip_prefix.ensures.cases)
 
-pub overflow_mul-result-in-Value-number-2 : goal.overflow_mul-result-in-Value-number-2
-overflow_mul-result-in-Value-number-2 c = omega (arith, value_below _ _ (sym c.in-Value-number-2.is ∙ c.number-else-line-eq98.ensures))
-
-pub returns-in-Invalid : goal.returns-in-Invalid
-returns-in-Invalid c =
-    let digits-signed : (d : Digits) → c.number.result ≡ d → d ≡ digits_of (drop 1 c.args.line.now) = λ d e. digits_behind 1 c.args.line.now _ (sym e ∙ c.number.ensures) in
-    sym (line_negative _ (omega arith) c.if-line-eq-MINUS.true ∙ numbered_invalid _ _ (digits-signed _ c.in-Invalid.is))
-
-pub returns-in-Value : goal.returns-in-Value
-returns-in-Value c =
-    let digits-signed : (d : Digits) → c.number.result ≡ d → d ≡ digits_of (drop 1 c.args.line.now) = λ d e. digits_behind 1 c.args.line.now _ (sym e ∙ c.number.ensures) in
-    sym (line_negative _ (omega arith) c.if-line-eq-MINUS.true ∙ numbered_value _ _ _ (digits-signed _ c.in-Value.is))
-
-pub returns-in-Invalid-number : goal.returns-in-Invalid-number
-returns-in-Invalid-number c =
-    let digits-back : (d : Digits) → c.number-then-line-eq98.result ≡ d → d ≡ digits_of (drop 2 c.args.line.now) = λ d e. digits_behind 2 c.args.line.now _ (sym e ∙ c.number-then-line-eq98.ensures) in
-    sym (line_back c.args.line.now (omega arith) c.if-line-eq98.true ∙ back_parted c.args.line.now c.if-line-ne32.false ∙ numbered_invalid _ _ (digits-back _ c.in-Invalid-number.is))
-
-pub returns-in-Value-number : goal.returns-in-Value-number
-returns-in-Value-number c =
-    let digits-back : (d : Digits) → c.number-then-line-eq98.result ≡ d → d ≡ digits_of (drop 2 c.args.line.now) = λ d e. digits_behind 2 c.args.line.now _ (sym e ∙ c.number-then-line-eq98.ensures) in
-    sym (line_back c.args.line.now (omega arith) c.if-line-eq98.true ∙ back_parted c.args.line.now c.if-line-ne32.false ∙ numbered_value _ _ _ (digits-back _ c.in-Value-number.is))
-
-pub returns-in-Invalid-number-2 : goal.returns-in-Invalid-number-2
-returns-in-Invalid-number-2 c =
-    sym (line_positive _ (omega arith) c.if-line-eq-MINUS.false c.if-line-eq98.false ∙ numbered_invalid _ _ (sym c.in-Invalid-number-2.is ∙ c.number-else-line-eq98.ensures))
-
-pub returns-in-Value-number-2 : goal.returns-in-Value-number-2
-returns-in-Value-number-2 c =
-    sym (line_positive _ (omega arith) c.if-line-eq-MINUS.false c.if-line-eq98.false ∙ numbered_value _ _ _ (sym c.in-Value-number-2.is ∙ c.number-else-line-eq98.ensures))
+pub returns-in_ok-number-3 : goal.returns-in_ok-number-3
+returns-in_ok-number-3 c =
+    line_positive _ (Some c.in_ok-number-3.field-0) c.in_ok-number-3.ensures c.in_default.ensures.cases c.in_default-strip_prefix.ensures.cases

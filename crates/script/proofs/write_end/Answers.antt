@@ -1,26 +1,15 @@
-use Prim.Native.Nat.{ℕ}
-use mathlib.Core.Path.{ap₂}
+use mathlib.Core.Path.{◌∙◌}
+use borrow.Author.Rules.{rules}
+use Rattle.script.specs.Inner.Writing.{Puts}
 use Rattle.script.specs.Answers.{bytes, end_line}
-use Rattle.script.proofs.writing.Laws.{appends_both, appends_as, line_written}
+use Rattle.script.proofs.writing.Laws.{puts_both, line_written}
 use Rattle.script.proofs.write_end.Goals as goal
 
 pub returns : goal.returns
 unfolding bytes end_line
-returns c = record {
-  value = (line_written (appends_as
-      (ap₂ (λ (d b : ℕ). end_line d b c.args.checks) c.wide.ensures c.wide-2.ensures)
-      (appends_both c.put_all-words.ensures
-      (appends_both c.put_number-decided.ensures
-      (appends_both c.put_all-backs.ensures
-      (appends_both c.put_number-taken.ensures
-      (appends_both c.put_all-sum.ensures
-      (appends_both c.put_number-made.ensures c.put.ensures)))))))).0;
-  out_after = (line_written (appends_as
-      (ap₂ (λ (d b : ℕ). end_line d b c.args.checks) c.wide.ensures c.wide-2.ensures)
-      (appends_both c.put_all-words.ensures
-      (appends_both c.put_number-decided.ensures
-      (appends_both c.put_all-backs.ensures
-      (appends_both c.put_number-taken.ensures
-      (appends_both c.put_all-sum.ensures
-      (appends_both c.put_number-made.ensures c.put.ensures)))))))).1;
-}
+returns c =
+    let puts : Puts c.new-line.result c.put.new.self (end_line c.args.decisions c.args.backtracks c.args.checks) =
+    puts_both c.put_all.ensures (puts_both (rw c.from.ensures at c.put_number.ensures) (puts_both c.put_all-2.ensures (puts_both (rw c.from-2.ensures at c.put_number-2.ensures) (puts_both c.put_all-3.ensures (puts_both c.put_number-3.ensures c.put.ensures))))) in
+    let same_buffer = puts.same_buffer ∙ c.new-line.ensures.same_buffer in
+    let written = line_written c.new-line.ensures.bytes c.new-line.ensures.end puts in
+    record { value = written.0; out_after = search rules }

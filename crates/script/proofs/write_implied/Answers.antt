@@ -1,7 +1,15 @@
+use mathlib.Core.Path.{◌∙◌}
+use borrow.Author.Rules.{rules}
+use Rattle.script.specs.Inner.Writing.{Puts}
 use Rattle.script.specs.Answers.{bytes, implied_line}
-use Rattle.script.proofs.writing.Laws.{appends_both, line_written}
+use Rattle.script.proofs.writing.Laws.{puts_both, line_written}
 use Rattle.script.proofs.write_implied.Goals as goal
 
 pub returns : goal.returns
 unfolding bytes implied_line
-returns c = record { value = (line_written (appends_both c.put_cause-words.ensures (appends_both c.put_all-kind.ensures (appends_both c.put_number-count.ensures (appends_both c.put-colon.ensures c.put_listed.ensures))))).0; out_after = (line_written (appends_both c.put_cause-words.ensures (appends_both c.put_all-kind.ensures (appends_both c.put_number-count.ensures (appends_both c.put-colon.ensures c.put_listed.ensures))))).1 }
+returns c =
+    let puts : Puts c.new-line.result c.put_listed.new.self (implied_line c.args.cause c.args.literals.now) =
+    puts_both c.put_cause.ensures (puts_both c.put_all.ensures (puts_both c.put_number.ensures (puts_both c.put.ensures c.put_listed.ensures))) in
+    let same_buffer = puts.same_buffer ∙ c.new-line.ensures.same_buffer in
+    let written = line_written c.new-line.ensures.bytes c.new-line.ensures.end puts in
+    record { value = written.0; out_after = search rules }

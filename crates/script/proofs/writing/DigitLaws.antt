@@ -31,8 +31,8 @@ digits_enough (suc p) (suc q) n hp hq =
         ∙ ap (λ (ds : List ℕ). ds ++ ((48 + n % 10) ∷ [])) (ih (ltb-false n 10 e))
         ∙ sym (last_digit (suc q) n (ltb-false n 10 e))
 
-pub numeral_one : (n : ℕ) → n < 10 → numeral n ≡ (48 + n) ∷ []
-numeral_one n h = one_digit 19 n h
+pub numeral_one : (n : ℕ) → n < 10 → numeral n ≡ (48 + n % 10) ∷ []
+numeral_one n h = one_digit 19 n h ∙ ap (λ (d : ℕ). (48 + d) ∷ []) (omega arith)
 
 pub numeral_more : (n : ℕ) → 10 ≤ n → n < 10 ^ 20 → numeral n ≡ numeral (n / 10) ++ ((48 + n % 10) ∷ [])
 numeral_more n low high =
@@ -40,10 +40,10 @@ numeral_more n low high =
     ∙ ap (λ (ds : List ℕ). ds ++ ((48 + n % 10) ∷ [])) (digits_enough 18 19 (n / 10) (omega arith) (omega arith))
 
 -- a literal by its sign
-pub signed_negative : (l : ℕ) → l % 2 ≡ 1 → signed l ≡ 45 ∷ numeral (l / 2)
+pub signed_negative : (l : ℕ) → l % 2 ≡ 1 → 45 ∷ numeral (l / 2) ≡ signed l
 unfolding signed
 signed_negative l e = rw (eq-eqb (l % 2) 1 e)
 
-pub signed_positive : (l : ℕ) → (l % 2 ≡ 1 → ⊥) → signed l ≡ numeral (l / 2)
+pub signed_positive : (l : ℕ) → (l % 2 ≡ 1 → ⊥) → numeral (l / 2) ≡ signed l
 unfolding signed
 signed_positive l e = rw (ne_eqb (l % 2) 1 e)
