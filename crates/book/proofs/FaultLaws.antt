@@ -143,33 +143,33 @@ in_table : Fault → Bool
 in_table f = eqb (number_of (refusal_of f.number)) f.number && leb f.number 9
 
 word_in_table : (variables clauses : ℕ) (past : List Token) (p : ℕ) (token : Token) → all in_table (faults_at variables clauses past p token) ≡ true
-unfolding faults_at in_table number_of refusal_of first_with refusals
+unfolding faults_at in_table refusal_of first_with refusals
 word_in_table variables clauses past p token =
     let one : (there : Bool) (n : ℕ) → in_table (fault_at p n) ≡ true → all in_table (fault there p n) ≡ true = λ there n h. all_fault in_table there p n h in
     all_both in_table _ _ (one _ 4 refl)
     (all_both in_table _ _ (one _ 5 refl) (all_both in_table _ _ (one _ 6 refl) (all_both in_table _ _ (one _ 8 refl) (one _ 9 refl))))
 
 words_in_table : (variables clauses end : ℕ) (past : List Token) (words : List Piece) → all in_table (faults_from variables clauses end past words) ≡ true
-unfolding faults_from in_table number_of refusal_of first_with refusals
+unfolding faults_from in_table refusal_of first_with refusals
 words_in_table variables clauses end past [] = all_fault in_table (unfinished clauses past) end 8 refl
 words_in_table variables clauses end past (word ∷ words) =
     all_both in_table _ _ (word_in_table variables clauses past word.place (token_of word.bytes))
     (words_in_table variables clauses end (token_of word.bytes ∷ past) words)
 
 under_in_table : (place : ℕ) (head : Header) (end : ℕ) (words : List Piece) → all in_table (faults_under place head end words) ≡ true
-unfolding faults_under in_table number_of refusal_of first_with refusals
+unfolding faults_under in_table refusal_of first_with refusals
 under_in_table place malformed end words = all_fault in_table true place 2 refl
 under_in_table place (header variables clauses) end words =
     all_both in_table _ _ (all_fault in_table (outside variables clauses) place 3 refl) (words_in_table variables clauses end [] words)
 
 faults_in_table : (end : ℕ) (lines : List Piece) → all in_table (faults_of end lines) ≡ true
-unfolding faults_of in_table number_of refusal_of first_with refusals
+unfolding faults_of in_table refusal_of first_with refusals
 faults_in_table end [] = all_fault in_table true end 2 refl
 faults_in_table end (line ∷ lines) = under_in_table line.place (header_of line) end (body_of lines)
 
 -- A text is refused by the number of its refusal, which is up to 9.
 pub refused_number : (text : List ℕ) (n : ℕ) → read_text text ≡ refused n → (number_of (refusal_of n) ≡ n) × (n ≤ 9)
-unfolding in_table number_of refusal_of first_with refusals
+unfolding in_table refusal_of first_with refusals
 refused_number text n h = ⊎_elim over within (below max_text (length text))
   where
     within : length text ≤ max_text → (number_of (refusal_of n) ≡ n) × (n ≤ 9)
@@ -186,11 +186,11 @@ refused_number text n h = ⊎_elim over within (below max_text (length text))
 
 -- Number 7 is never given.
 pub not_refused_7 : (text : List ℕ) → read_text text ≡ refused 7 → ⊥
-unfolding number_of refusal_of first_with refusals
+unfolding refusal_of first_with refusals
 not_refused_7 text h = absurd (omega (arith, (refused_number text 7 h).0))
 
 pub never_7 : (text : List ℕ) (room : ℕ) → read_answer (read_text text) room ≡ Err (refusal_of 7) → ⊥
-unfolding number_of refusal_of first_with refusals
+unfolding refusal_of first_with refusals
 never_7 text room = go (read_text text) refl
   where
     go : (judged : Judged) → read_text text ≡ judged → read_answer judged room ≡ Err (refusal_of 7) → ⊥

@@ -78,7 +78,7 @@ module _ {text numbers : List ℕ} {variables clauses total : ℕ} (r : Read tex
     is_read = read_walked text (accepted r.written) short r.is_accepted
 
     pub read_short : length buffer < clauses + total + 4 → ReadAnswered (read_text text) buffer (Err refusal.ShortMemory) buffer
-    unfolding refusal_of first_with refusals number_of
+    unfolding refusal_of first_with refusals
     read_short h = answer_short (read_text text) formula is_read buffer (omega (arith, length_read))
 
     -- the numbers of the book are copied

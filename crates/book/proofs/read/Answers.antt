@@ -11,7 +11,7 @@ use Rattle.book.proofs.ReadLaws.{answer_refused_by, read_refused, book_within, r
 use Rattle.book.proofs.read.Goals as goal
 
 pub returns-then-text-gt-MAX_TEXT : goal.returns-then-text-gt-MAX_TEXT
-unfolding number_of
+
 returns-then-text-gt-MAX_TEXT c =
     let a = answer_refused_by _ c.args.out.now _ (too_long c.args.text.now (omega arith)) in
     record { answer = a.0; numbers = a.1 }

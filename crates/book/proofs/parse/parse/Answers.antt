@@ -9,11 +9,11 @@ use Rattle.book.proofs.parse.parse.Goals as goal
 use Rattle.book.proofs.parse.parse.Goals.{then-variables-eq0-via-then-variables-eq0, then-variables-eq0-via-else-variables-eq0+then-variables-gt-VARIABLES, then-variables-eq0-via-else-variables-eq0+else-variables-gt-VARIABLES+then-clauses-gt-CLAUSES}
 
 pub returns-in_default : goal.returns-in_default
-unfolding number_of
+
 returns-in_default c = text_start _ _ c.line_start-at.ensures ∙ c.in_default.ensures
 
 pub returns-then-variables-eq0 : goal.returns-then-variables-eq0
-unfolding number_of
+
 returns-then-variables-eq0 c =
     text_start _ _ c.line_start-at.ensures ∙ c.in-Found.ensures.1 ∙ header_refused _ _ _
     (elim c.then-variables-eq0.branch [
