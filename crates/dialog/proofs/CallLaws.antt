@@ -1,4 +1,8 @@
 -- What `start`, `take` and `finish` leave, way out by way out.
+use Rattle.book.specs.declared.Sizes.{Sizes}
+use Rattle.std.specs.Prelude.{Option, Some, None, Result, Ok, Err, ⊤}
+use Rattle.refusals.specs.declared.Refusal.{Refusal}
+use Rattle.refusals.specs.Refusals.{number_of, refusal_of, outcome}
 use Prim.Native.Nat.{ℕ, ◌+◌, ◌-◌, ◌≤◌, ◌<◌}
 use mathlib.Core.Path.{◌≡◌, ◌∙◌}
 use mathlib.Core.List.{List, ◌++◌}
@@ -12,7 +16,6 @@ use Rattle.base.proofs.Until.{take-until, length-until}
 use Rattle.book.specs.Text.{line_end}
 use Rattle.book.specs.Reading.{read_text}
 use Rattle.book.specs.Answer.{read_answer, numbers_after}
-use Rattle.book.specs.declared.Reading.TheVariants as reading
 use Rattle.script.specs.Answers.{refused_line}
 use Rattle.script.specs.Buffer.{fitting}
 use Rattle.script.specs.Script.{line_bytes}
@@ -26,15 +29,15 @@ use Rattle.dialog.proofs.answers.Laws.{Written}
 
 -- a start: the text is refused, or a session is opened on its book
 module _ (text book session out after : List ℕ) (is : after ≡ numbers_after (read_text text) book) where
-  pub start_refused : (n : ℕ) (now : List ℕ) (r : ℕ) → reading.Refused n ≡ read_answer (read_text text) (length book) → Written (refused_line n) out now r
+  pub start_refused : (refusal : Refusal) (now : List ℕ) (r : ℕ) → Err refusal ≡ read_answer (read_text text) (length book) → Written (refused_line (number_of refusal)) out now r
       → start_left (started.Refused r) after session now ≡ starting text book session out
   unfolding starting starting_by
-  start_refused n now r told w = rw (← told, ← is, w.0, w.1)
+  start_refused refusal now r told w = rw (← told, ← is, w.0, w.1)
 
-  pub start_opened : (v c l : ℕ) (answer : Started) (next now : List ℕ) → reading.Book v c l ≡ read_answer (read_text text) (length book)
+  pub start_opened : (sizes : Sizes) (answer : Started) (next now : List ℕ) → Ok sizes ≡ read_answer (read_text text) (length book)
       → start_left answer after next now ≡ opening after session out → start_left answer after next now ≡ starting text book session out
   unfolding starting starting_by
-  start_opened v c l answer next now told e = rw (← told, ← is) e
+  start_opened sizes answer next now told e = rw (← told, ← is) e
 
 -- bytes that are taken: up to and with the end of a line, or all of them
 module _ (book session line : List ℕ) (kept : ℕ) (bytes out : List ℕ) where

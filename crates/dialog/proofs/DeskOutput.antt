@@ -1,4 +1,7 @@
 -- The bytes that `start`, `take` and `finish` hand out, joined, are the output of the script program, however the script is parted.
+use Rattle.std.specs.Prelude.{Option, Some, None, Result, Ok, Err, ⊤}
+use Rattle.refusals.specs.declared.Refusal.{Refusal}
+use Rattle.refusals.specs.Refusals.{number_of, refusal_of, outcome}
 use Prim.Native.Nat.{ℕ, zero, suc, ◌-◌, ◌≤◌}
 use mathlib.Core.Path.{◌≡◌, refl, ap, ap₂, sym, ◌∙◌}
 use mathlib.Core.Bool.{Bool, true, false, cond}
@@ -14,14 +17,15 @@ use Rattle.base.proofs.Copies.{length_copy}
 use Rattle.book.specs.Formula.{Formula, max_book}
 use Rattle.book.specs.Numbers.{numbers_of, formula_of, well_formed}
 use Rattle.book.specs.Reading.{Judged, refused, accepted, read_text}
+use Rattle.book.proofs.FaultLaws.{refused_number}
 use Rattle.book.proofs.Accepted.{accepted_sound, accepted_well_formed}
 use Rattle.book.proofs.NumberLaws.{book_fits, formula_of_numbers}
 use Rattle.run.specs.Run.{Run, open_run, in_conflict}
 use Rattle.layout.specs.Layout.{max_session}
 use Rattle.session.specs.Outcomes.{propagated_answer, open_numbers, open_refusal}
 use Rattle.session.proofs.Statements.{numbers_suffice}
-use Rattle.session.specs.declared.Answer.{Answer}
-use Rattle.session.specs.declared.Answer.TheVariants as answer
+use Rattle.session.specs.declared.Propagated.{Propagated}
+use Rattle.session.specs.declared.Propagated.TheVariants as propagated
 use Rattle.script.specs.declared.Line.{Line}
 use Rattle.script.specs.declared.Cause.TheVariants.{Opening}
 use Rattle.script.specs.Script.{line_of, script_lines, line_bytes}
@@ -81,7 +85,7 @@ part_joined book (goes_on {holds = holds} {bytes = part} {printed = handed-on} s
         → handed (takes book holds part) ++ (handed-on ++ printed) ≡ answers_to (formula_of book) run (joined begun (script_lines (part ++ rest)))
     go true e ih =
         let front : List ℕ = line_bytes part in
-        let line : Line = line_of (begun ++ front) in
+        let line : Option Line = line_of (begun ++ front) in
         let took : takes book holds part ≡ ending book holds.session holds.line holds.kept front holds.out
         = taking-ends book holds.session holds.line holds.kept part holds.out e in
         let follows : Follows book (holds_then (takes book holds part)) (step_of (formula_of book) run line) [] buffer
@@ -131,21 +135,12 @@ opened_prints (refuses e) n q = let z : ◌≡◌ {A = ℕ} 0 1 = cc in absurd (
 opened_prints {left = left} (opens {n = m} {printed = printed} e rest) n q =
     let same : m ≡ n = cc in (printed, rest, ap (λ (k : ℕ). take k left.out ++ printed) same)
 
--- an opening that is not refused begins the answers
-propagated_opens : (before written : ℕ) (run : Run) → started_by (propagated_answer before run) written ≡ started.Open written
-unfolding started_by propagated_answer
-propagated_opens before written run = go (in_conflict run)
-  where
-    go : (c : Bool) → started_by (cond c (answer.Conflict run.conflict) (answer.Implied (length run.trail - before))) written ≡ started.Open written
-    go true = refl
-    go false = refl
-
 module _ (text book session out : List ℕ) where
   -- a text that is refused
   refused_starts : (n : ℕ) → read_text text ≡ refused n
       → starting text book session out ≡ start_left (started.Refused (fitting (refused_line n) out)) book session (copied (refused_line n) out)
   unfolding starting starting_by
-  refused_starts n e = rw e
+  refused_starts n e = rw (← (refused_number text n e).0) (rw e)
 
   -- a text that is accepted
   module _ (formula : Formula) (e : read_text text ≡ accepted formula) where
@@ -167,12 +162,11 @@ module _ (text book session out : List ℕ) where
 
       accepted-starts : starting text book session out
           ≡ start_left (started.Open (fitting (open_bytes read session) out)) read (open_numbers read session) (copied (open_bytes read session) out)
-      unfolding starting starting_by opening
+      unfolding starting starting_by opening started_by
       accepted-starts =
           rw (e, le-ltb (length book) (length (numbers_of formula)) (omega (arith, book_fits formula (accepted_sound text formula e))))
           (ap (λ (s : Started). start_left s read (open_numbers read session) (copied (open_bytes read session) out))
-          (ap (λ (a : Answer). started_by a (fitting (open_bytes read session) out)) (run_opening read session accepts)
-          ∙ propagated_opens 0 (fitting (open_bytes read session) out) (open_run (formula_of read))))
+          (ap (λ (a : Result Propagated Refusal). started_by a (fitting (open_bytes read session) out)) (run_opening read session accepts)))
 
 -- For every text and every way to part a script: what the program prints is the output of the script program.
 pub desk_output_lem : (text book session line out : List ℕ) → Lends book session line out → (parts : List (List ℕ)) (printed : List ℕ)

@@ -1,4 +1,7 @@
 -- Every answer fits the buffer of the program: no line has more than 2,558 bytes, whatever the session holds.
+use Rattle.std.specs.Prelude.{Option, Some, None, Result, Ok, Err, ⊤}
+use Rattle.refusals.specs.declared.Refusal.{Refusal}
+use Rattle.refusals.specs.Refusals.{number_of, refusal_of, outcome}
 use Prim.Native.Nat.{ℕ, suc, ◌+◌, ◌-◌, ◌≤◌, ◌<◌}
 use mathlib.Core.Path.{◌≡◌, refl, sym, ◌∙◌}
 use mathlib.Core.Bool.{Bool, true, false, cond}
@@ -22,14 +25,9 @@ use Rattle.run.proofs.Trails.{place_true}
 use Rattle.layout.specs.Layout.{held}
 use Rattle.layout.proofs.TrailLaws.{literal_on}
 use Rattle.session.specs.Outcomes.{open_answer, open_numbers, decide_answer, decide_numbers, backtrack_answer, total_answer, figures_answer}
-use Rattle.session.specs.declared.Answer.{Answer}
-use Rattle.session.specs.declared.Answer.TheVariants as answer
-use Rattle.session.specs.declared.Back.{Back}
-use Rattle.session.specs.declared.Back.TheVariants as back
-use Rattle.session.specs.declared.Sum.{Sum}
-use Rattle.session.specs.declared.Sum.TheVariants as total
+use Rattle.session.specs.declared.Propagated.{Propagated}
+use Rattle.session.specs.declared.Propagated.TheVariants as propagated
 use Rattle.session.specs.declared.Shown.{Shown}
-use Rattle.session.specs.declared.Shown.TheVariants as shown
 use Rattle.script.specs.declared.Line.{Line}
 use Rattle.script.specs.declared.Line.TheVariants as asks
 use Rattle.script.specs.declared.Cause.{Cause}
@@ -78,37 +76,37 @@ module _ (book session : List ℕ) (run : Run) (buffer : List ℕ) (h : HoldsRun
       omega (arith, length-drop before (table n f), length-table n f, trail_few book session run buffer h)
 
 -- the line of a call that propagated
-propagated_fits : (book session : List ℕ) (cause : Cause) (made : Answer) → ((n : ℕ) → made ≡ answer.Implied n → ShowsImplied book session n)
+propagated_fits : (book session : List ℕ) (cause : Cause) (made : Result Propagated Refusal) → ((n : ℕ) → made ≡ Ok (propagated.Implied n) → ShowsImplied book session n)
     → length (propagated_bytes cause made (held (formula_of book) session)) ≤ most_bytes
 unfolding propagated_bytes
-propagated_fits book session cause (answer.Implied n) s =
+propagated_fits book session cause (Ok (propagated.Implied n)) s =
     let run : Run = held (formula_of book) session in
     let whole = passing_holds book session (sym (s n refl).passes) in
     let before : ℕ = length run.trail - n in
     omega (arith, length_implied cause (trail_behind before run) (trail_short book session run session whole before), trail_count book session run session whole before)
-propagated_fits book session cause (answer.Conflict clause) s = omega (arith, length_clause cause clause)
-propagated_fits book session cause (answer.Refused number) s = omega (arith, length_refused number)
+propagated_fits book session cause (Ok (propagated.Conflict clause)) s = omega (arith, length_clause cause clause)
+propagated_fits book session cause (Err refusal) s = omega (arith, length_refused (number_of refusal))
 
-back_fits : (k : ℕ) (made : Back) → length (back_bytes k made) ≤ most_bytes
+back_fits : (k : ℕ) (made : Result ⊤ Refusal) → length (back_bytes k made) ≤ most_bytes
 unfolding back_bytes
-back_fits k back.Done = omega (arith, length_back k)
-back_fits k (back.Refused number) = omega (arith, length_refused number)
+back_fits k (Ok done) = omega (arith, length_back k)
+back_fits k (Err refusal) = omega (arith, length_refused (number_of refusal))
 
-end_fits : (sum : Sum) (figures : Shown) → length (end_bytes sum figures) ≤ 88
+end_fits : (sum : Result ℕ Refusal) (figures : Result Shown Refusal) → length (end_bytes sum figures) ≤ 88
 unfolding end_bytes
-end_fits (total.Refused number) figures = omega (arith, length_refused number)
-end_fits (total.Checks checks) (shown.Refused number) = omega (arith, length_refused number)
-end_fits (total.Checks checks) (shown.Of d b n c) = length_end d b checks
+end_fits (Err refusal) figures = omega (arith, length_refused (number_of refusal))
+end_fits (Ok checks) (Err refusal) = omega (arith, length_refused (number_of refusal))
+end_fits (Ok checks) (Ok shown) = length_end shown.decisions shown.backtracks checks
 
 module _ (book session : List ℕ) where
-  line-fits : (line : Line) → length (line_answer book session line) ≤ most_bytes
+  line-fits : (line : Option Line) → length (line_answer book session line) ≤ most_bytes
   unfolding line_answer
-  line-fits (asks.Choose l) = propagated_fits book (decide_numbers book session l) (Decision l) (decide_answer book session l) (decision_shows book session l)
-  line-fits (asks.Back k) = back_fits k (backtrack_answer book session k)
-  line-fits asks.Malformed = omega (arith, length_refused 18)
+  line-fits (Some (asks.Choose l)) = propagated_fits book (decide_numbers book session l) (Decision l) (decide_answer book session l) (decision_shows book session l)
+  line-fits (Some (asks.Back k)) = back_fits k (backtrack_answer book session k)
+  line-fits None = omega (arith, length_refused 18)
 
   -- The answer to a line,
-  pub answer_fits : (line : Line) → length (line_answer book session line) ≤ max_answer
+  pub answer_fits : (line : Option Line) → length (line_answer book session line) ≤ max_answer
   answer_fits line = omega (arith, line-fits line)
 
   -- the line of an opening,

@@ -1,4 +1,5 @@
 -- The program holds the run behind the lines that have ended, and as much of the line that has begun as fits: what its next call then hands out.
+use Rattle.std.specs.Prelude.{Option}
 use Prim.Native.Nat.{ℕ, ◌+◌, ◌-◌, ◌≤◌, ◌<◌}
 use mathlib.Core.Path.{◌≡◌, refl, ap, ap₂, sym, ◌∙◌}
 use mathlib.Core.Bool.{Bool, true, false, cond}
@@ -142,7 +143,7 @@ finish_some : (book : List ℕ) (holds : Holds) (run : Run) (b : ℕ) (begun buf
     → handed_last book holds ≡ answers_to (formula_of book) run ((b ∷ begun) ∷ [])
 unfolding begun_bytes begun_numbers answers_to
 finish_some book holds run b begun buffer f =
-    let line : Line = line_of (b ∷ begun) in
+    let line : Option Line = line_of (b ∷ begun) in
     let long : length (take holds.kept holds.line) ≡ length (take (length holds.line) (b ∷ begun)) = ap length f.bytes in
     let some : 0 < holds.kept = omega (arith, length-take-le holds.kept holds.line f.within, length-take (length holds.line) (b ∷ begun), f.room) in
     let asks : line_of (take holds.kept holds.line) ≡ line = ap line_of f.bytes ∙ kept_line (length holds.line) (b ∷ begun) f.room in

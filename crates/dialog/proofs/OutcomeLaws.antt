@@ -1,4 +1,7 @@
 -- What the calls answer and leave on a session that holds a run. Only these laws look into the outcomes of `session`.
+use Rattle.std.specs.Prelude.{Option, Some, None, Result, Ok, Err, ⊤}
+use Rattle.refusals.specs.declared.Refusal.{Refusal}
+use Rattle.refusals.specs.Refusals.{number_of, refusal_of, outcome}
 use Prim.Native.Nat.{ℕ, suc, ◌-◌, ◌≤◌}
 use mathlib.Core.Path.{◌≡◌, refl, sym, ap, ◌∙◌}
 use mathlib.Core.Bool.{Bool, true, false, cond}
@@ -23,14 +26,12 @@ use Rattle.run.proofs.Validity.{trail_short}
 use Rattle.layout.specs.Layout.{held}
 use Rattle.layout.proofs.EncodeLaws.{encodes_whole}
 use Rattle.validation.specs.Validation.{read_refusal}
-use Rattle.session.specs.Outcomes.{accepted, refused, outcome, answer_of, back_of, overwritten, propagated_answer, open_refusal, open_answer, open_numbers, decide_answer, decide_numbers, session_decide_refusal, backtrack_answer, session_backtrack_refusal, figures_answer, total_answer, copy_answer, copy_numbers, call_numbers}
+use Rattle.session.specs.Outcomes.{answer_of, back_of, overwritten, propagated_answer, open_refusal, open_answer, open_numbers, decide_answer, decide_numbers, session_decide_refusal, backtrack_answer, session_backtrack_refusal, figures_answer, total_answer, copy_answer, copy_numbers, call_numbers}
 use Rattle.session.proofs.CallLaws.{held_overwritten, call_refusal_lem, call_numbers_lem, open_accepted}
 use Rattle.session.proofs.PassedLaws.{well, facts}
 use Rattle.session.proofs.AnswerLaws.{decide_none, decide_own}
-use Rattle.session.specs.declared.Answer.TheVariants as answer
-use Rattle.session.specs.declared.Count.TheVariants as count
-use Rattle.session.specs.declared.Shown.TheVariants as shown
-use Rattle.session.specs.declared.Sum.TheVariants as total
+use Rattle.session.specs.declared.Propagated.{Propagated}
+use Rattle.session.specs.declared.Propagated.TheVariants as propagated
 use Rattle.dialog.specs.Starting.{started_by}
 use Rattle.dialog.specs.Program.{HoldsRun}
 use Rattle.dialog.specs.Inner.Printing.{ShowsImplied}
@@ -47,16 +48,17 @@ module _ (book session : List ℕ) (run : Run) (buffer : List ℕ) (h : HoldsRun
   pub trail_few : length run.trail ≤ max_variables
   trail_few = omega (arith, trail_short (valid_structure h.valid).trailed, (well_formed_limited book h.well).variables)
 
-  pub run_figures : figures_answer book session ≡ shown.Of (length (decisions run.trail)) run.backtracks (length run.trail) run.conflict
+  pub run_figures : figures_answer book session
+      ≡ Ok (record { decisions = length (decisions run.trail); backtracks = run.backtracks; trail = length run.trail; conflict = run.conflict })
   unfolding figures_answer
   run_figures = rw (read_none, held_is)
 
-  pub run_total : total_answer book session ≡ total.Checks (sum run.checks)
+  pub run_total : total_answer book session ≡ Ok (sum run.checks)
   unfolding total_answer
   run_total = rw (read_none, held_is)
 
   -- the whole trail is copied: how many literals it has, and the last n of them
-  pub run_count : copy_answer book session (trail_behind 0) ≡ count.Of (length run.trail)
+  pub run_count : copy_answer book session (trail_behind 0) ≡ Ok (length run.trail)
   unfolding copy_answer trail_behind
   run_count = rw (read_none, held_is, length-table)
 
@@ -123,30 +125,31 @@ module _ (book session : List ℕ) (accepted : open_refusal book (length session
         numbers = rw accepted;
       }
 
-  pub run_opening : open_answer book (length session) ≡ propagated_answer 0 (open_run (formula_of book))
+  pub run_opening : open_answer book (length session) ≡ Ok (propagated_answer 0 (open_run (formula_of book)))
   unfolding open_answer
   run_opening = rw accepted
 
 -- a call that implied n literals was accepted, and the trail has them
-implied_few : (n before : ℕ) (run : Run) → propagated_answer before run ≡ answer.Implied n → n ≤ length run.trail
+implied_few : (n before : ℕ) (run : Run) → ◌≡◌ {A = Result Propagated Refusal} (Ok (propagated_answer before run)) (Ok (propagated.Implied n)) → n ≤ length run.trail
 unfolding propagated_answer
 implied_few n before run e = go (in_conflict run) e
   where
-    go : (c : Bool) → cond c (answer.Conflict run.conflict) (answer.Implied (length run.trail - before)) ≡ answer.Implied n → n ≤ length run.trail
+    go : (c : Bool) → ◌≡◌ {A = Result Propagated Refusal} (Ok (cond c (propagated.Conflict run.conflict) (propagated.Implied (length run.trail - before)))) (Ok (propagated.Implied n))
+        → n ≤ length run.trail
     go true q = let z : ◌≡◌ {A = ℕ} 0 1 = cc in absurd (omega arith)
     go false q = let is : length run.trail - before ≡ n = cc in omega arith
 
-implied_accepted : (number before n : ℕ) (run : Run) → answer_of before (outcome number run) ≡ answer.Implied n → (number ≡ 0) × (n ≤ length run.trail)
+implied_accepted : (number before n : ℕ) (run : Run) → answer_of before (outcome number run) ≡ Ok (propagated.Implied n) → (number ≡ 0) × (n ≤ length run.trail)
 implied_accepted number before n run e = go (eqb number 0) refl e
   where
-    go : (b : Bool) → eqb number 0 ≡ b → answer_of before (cond b (accepted run) (refused number)) ≡ answer.Implied n → (number ≡ 0) × (n ≤ length run.trail)
+    go : (b : Bool) → eqb number 0 ≡ b → answer_of before (cond b (Ok run) (Err (refusal_of number))) ≡ Ok (propagated.Implied n) → (number ≡ 0) × (n ≤ length run.trail)
     go true q a = (eqb-true number 0 q, implied_few n before run a)
     go false q a = let z : ◌≡◌ {A = ℕ} 0 1 = cc in absurd (omega arith)
 
 shows : (book session : List ℕ) (run : Run) (buffer : List ℕ) → HoldsRun book session run buffer → (n : ℕ) → n ≤ length run.trail → ShowsImplied book session n
 shows book session run buffer h n few = record { passes = read_none book session run buffer h; few = rw (held_is book session run buffer h) few }
 
-pub decision_shows : (book session : List ℕ) (l n : ℕ) → decide_answer book session l ≡ answer.Implied n → ShowsImplied book (decide_numbers book session l) n
+pub decision_shows : (book session : List ℕ) (l n : ℕ) → decide_answer book session l ≡ Ok (propagated.Implied n) → ShowsImplied book (decide_numbers book session l) n
 unfolding decide_answer
 decision_shows book session l n e =
     let run : Run = held (formula_of book) session in
@@ -155,7 +158,7 @@ decision_shows book session l n e =
     let next = decision_holds book session run session (passing_holds book session none) l (decide_own book session l (sym implied.0)) in
     shows book (decide_numbers book session l) (decide (formula_of book) l run) session next n implied.1
 
-pub opening_shows : (book session : List ℕ) (n : ℕ) → open_answer book (length session) ≡ answer.Implied n → ShowsImplied book (open_numbers book session) n
+pub opening_shows : (book session : List ℕ) (n : ℕ) → open_answer book (length session) ≡ Ok (propagated.Implied n) → ShowsImplied book (open_numbers book session) n
 unfolding open_answer
 opening_shows book session n e =
     let implied = implied_accepted (open_refusal book (length session)) 0 n (open_run (formula_of book)) e in
@@ -167,7 +170,7 @@ unfolding open_answer started_by
 opening_accepted book session n w e = go (eqb (open_refusal book (length session)) 0) refl e
   where
     go : (b : Bool) → eqb (open_refusal book (length session)) 0 ≡ b
-        → started_by (answer_of 0 (cond b (accepted (open_run (formula_of book))) (refused (open_refusal book (length session))))) w ≡ started.Open n
+        → started_by (answer_of 0 (cond b (Ok (open_run (formula_of book))) (Err (refusal_of (open_refusal book (length session)))))) w ≡ started.Open n
         → open_refusal book (length session) ≡ 0
     go true q a = eqb-true (open_refusal book (length session)) 0 q
     go false q a = let z : ◌≡◌ {A = ℕ} 0 1 = cc in absurd (omega arith)

@@ -1,5 +1,5 @@
 -- Bytes of a script are taken: what is used and kept of them, and what is answered; and the end of the script.
-use Rattle.std.specs.Prelude.{ℕ, ◌+◌, cond, List, [], ◌++◌, ltb, length, take, drop}
+use Rattle.std.specs.Prelude.{ℕ, ◌+◌, cond, List, [], ◌++◌, ltb, length, take, drop, Option}
 use Rattle.base.specs.Lists.{copied}
 use Rattle.script.specs.declared.Line.{Line}
 use Rattle.script.specs.Script.{line_bytes, line_of}
@@ -32,7 +32,7 @@ keeping session line kept bytes out =
 -- the rest of a line, without its byte 10, which is used too: the line is answered
 unfoldable pub ending : List ℕ → List ℕ → List ℕ → ℕ → List ℕ → List ℕ → TakeLeft
 ending book session line kept bytes out =
-    let asked : Line = line_of (take (kept_after line kept bytes) (line_after line kept bytes)) in
+    let asked : Option Line = line_of (take (kept_after line kept bytes) (line_after line kept bytes)) in
     take_left
     (record { used = length bytes + 1; kept = 0; written = fitting (line_answer book session asked) out })
     (line_numbers book session asked)

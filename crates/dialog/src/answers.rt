@@ -7,7 +7,9 @@ ghost use Rattle.dialog.specs.Inner.Printing.{ShowsImplied, ShowsPropagated, Pri
 use crate::Started;
 use crate::lines::parse_kept;
 use book::limits::MAX_VARIABLES;
-use layout::values::wide;
+use refusals::Refusal;
+use script::Line;
+use session::Propagated;
 
 // As many literals as a trail has at most, as a count.
 const MOST: u32 = MAX_VARIABLES as u32;
@@ -24,20 +26,18 @@ fn show_implied(
     ensures { PrintsImplied book.now session.now cause implied out.old out.new result }
 {
     let mut literals = [0u32; MAX_VARIABLES];
-    match session::trail_from(book, session, 0, &mut literals) {
-        session::Count::Refused(_) => 0,
-        session::Count::Of(trail) => {
-            if trail < implied {
-                return 0;
-            }
-            if MOST < trail {
-                return 0;
-            }
-            let from = wide(trail - implied);
-            let to = wide(trail);
-            script::write_implied(cause, &literals[from..to], out)
-        }
+    let Ok(trail) = session::trail_from(book, session, 0, &mut literals) else {
+        return 0;
+    };
+    if trail < implied {
+        return 0;
     }
+    if MOST < trail {
+        return 0;
+    }
+    let from = (trail - implied) as usize;
+    let to = trail as usize;
+    script::write_implied(cause, &literals[from..to], out)
 }
 
 // The line of an opening or a decision.
@@ -45,16 +45,16 @@ fn show_propagated(
     book: &[u32],
     session: &[u32],
     cause: script::Cause,
-    answer: session::Answer,
+    answer: Result<Propagated, Refusal>,
     out: &mut [u8],
 ) -> usize
     requires { ShowsPropagated book.now session.now answer }
     ensures { PrintsPropagated book.now session.now cause answer out.old out.new result }
 {
     match answer {
-        session::Answer::Implied(implied) => show_implied(book, session, cause, implied, out),
-        session::Answer::Conflict(clause) => script::write_clause(cause, clause, out),
-        session::Answer::Refused(refusal) => script::write_refused(refusal, out),
+        Ok(Propagated::Implied(implied)) => show_implied(book, session, cause, implied, out),
+        Ok(Propagated::Conflict(clause)) => script::write_clause(cause, clause, out),
+        Err(refusal) => script::write_refused(refusal.number(), out),
     }
 }
 
@@ -65,9 +65,8 @@ pub(crate) fn open(book: &[u32], session: &mut [u32], out: &mut [u8]) -> Started
     let made = session::open(book, session);
     let written = show_propagated(book, session, script::Cause::Opening, made, out);
     match made {
-        session::Answer::Implied(_) => Started::Open(written),
-        session::Answer::Conflict(_) => Started::Open(written),
-        session::Answer::Refused(_) => Started::Refused(written),
+        Ok(_) => Started::Open(written),
+        Err(_) => Started::Refused(written),
     }
 }
 
@@ -82,14 +81,14 @@ pub(crate) fn answer(
     ensures { PrintsLine book.now session.old session.new line.now kept out.old out.new result }
 {
     match parse_kept(line, kept) {
-        script::Line::Malformed => script::write_refused(18, out),
-        script::Line::Choose(literal) => {
+        None => script::write_refused(Refusal::Line.number(), out),
+        Some(Line::Choose(literal)) => {
             let made = session::decide(book, session, literal);
             show_propagated(book, session, script::Cause::Decision(literal), made, out)
         }
-        script::Line::Back(k) => match session::backtrack(book, session, k) {
-            session::Back::Done => script::write_back(k, out),
-            session::Back::Refused(refusal) => script::write_refused(refusal, out),
+        Some(Line::Back(k)) => match session::backtrack(book, session, k) {
+            Ok(_) => script::write_back(k, out),
+            Err(refusal) => script::write_refused(refusal.number(), out),
         },
     }
 }
@@ -115,15 +114,10 @@ pub(crate) fn last_line(book: &[u32], session: &[u32], out: &mut [u8]) -> usize
     ensures { Prints (last_line book.now session.now) out.old out.new result }
 {
     match session::total(book, session) {
-        session::Sum::Refused(refusal) => script::write_refused(refusal, out),
-        session::Sum::Checks(checks) => match session::figures(book, session) {
-            session::Shown::Refused(refusal) => script::write_refused(refusal, out),
-            session::Shown::Of {
-                decisions,
-                backtracks,
-                trail: _,
-                conflict: _,
-            } => script::write_end(decisions, backtracks, checks, out),
+        Err(refusal) => script::write_refused(refusal.number(), out),
+        Ok(checks) => match session::figures(book, session) {
+            Err(refusal) => script::write_refused(refusal.number(), out),
+            Ok(shown) => script::write_end(shown.decisions, shown.backtracks, checks, out),
         },
     }
 }

@@ -17,14 +17,14 @@ pub const MAX_ANSWER: usize = 4096;
 pub const MAX_LINE: usize = 12;
 
 // What became of a start: how many bytes were written, and whether the script is to be answered.
-#[derive(Clone, Copy)]
+#[derive(Clone, Copy, Debug, PartialEq, Eq)]
 pub enum Started {
     Open(usize),
     Refused(usize),
 }
 
 // How many bytes of the script were used, how many bytes of the line that has begun are kept, how many bytes of an answer were written.
-#[derive(Clone, Copy)]
+#[derive(Clone, Copy, Debug, PartialEq, Eq)]
 pub struct Taken {
     pub used: usize,
     pub kept: usize,
@@ -37,12 +37,8 @@ pub fn start(text: &[u8], book: &mut [u32], session: &mut [u32], out: &mut [u8])
     ensures { start_left result book.new session.new out.new ≡ starting text.now book.old session.old out.old }
 {
     match book::read(text, book) {
-        book::Reading::Refused(refusal) => Started::Refused(script::write_refused(refusal, out)),
-        book::Reading::Book {
-            variables: _,
-            clauses: _,
-            literals: _,
-        } => answers::open(book, session, out),
+        Err(refusal) => Started::Refused(script::write_refused(refusal.number(), out)),
+        Ok(_) => answers::open(book, session, out),
     }
 }
 

@@ -33,7 +33,7 @@ pub(crate) fn keep(line: &mut [u8], kept: usize, bytes: &[u8]) -> usize
 }
 
 // What the `kept` bytes ask for; all bytes of the buffer, where it has no more.
-pub(crate) fn parse_kept(line: &[u8], kept: usize) -> script::Line
+pub(crate) fn parse_kept(line: &[u8], kept: usize) -> Option<script::Line>
     ensures { result ≡ line_of (take kept line.now) }
 {
     if kept < line.len() {

@@ -11,3 +11,4 @@ pub mod ShownLevels
 pub mod TextLaws
 pub mod FixedDecisions
 pub mod ReplayLaws
+pub mod NumberLaws

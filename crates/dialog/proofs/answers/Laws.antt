@@ -1,4 +1,7 @@
 -- What each function of src/answers.rt leaves in the buffer, way out by way out.
+use Rattle.std.specs.Prelude.{Option, Some, None, Result, Ok, Err, ⊤}
+use Rattle.refusals.specs.declared.Refusal.{Refusal}
+use Rattle.refusals.specs.Refusals.{number_of, refusal_of, outcome}
 use Prim.Native.Nat.{ℕ, ◌-◌, ◌≤◌, ◌<◌}
 use mathlib.Core.Path.{◌≡◌, ap, sym, ◌∙◌}
 use mathlib.Core.List.{List}
@@ -13,12 +16,9 @@ use Rattle.book.specs.Numbers.{formula_of}
 use Rattle.run.specs.Run.{Run, trail_behind}
 use Rattle.layout.specs.Layout.{held}
 use Rattle.session.specs.Outcomes.{open_answer, open_numbers, decide_answer, decide_numbers, backtrack_answer, backtrack_numbers, total_answer, figures_answer, copy_answer, copy_numbers}
-use Rattle.session.specs.declared.Answer.{Answer}
-use Rattle.session.specs.declared.Answer.TheVariants as answer
-use Rattle.session.specs.declared.Back.TheVariants as back
-use Rattle.session.specs.declared.Count.TheVariants as count
-use Rattle.session.specs.declared.Shown.TheVariants as shown
-use Rattle.session.specs.declared.Sum.TheVariants as total
+use Rattle.session.specs.declared.Propagated.{Propagated}
+use Rattle.session.specs.declared.Shown.{Shown}
+use Rattle.session.specs.declared.Propagated.TheVariants as propagated
 use Rattle.script.specs.declared.Line.TheVariants as asks
 use Rattle.script.specs.declared.Cause.{Cause}
 use Rattle.script.specs.declared.Cause.TheVariants.{Opening, Decision}
@@ -51,14 +51,14 @@ module _ (book session : List ℕ) (implied : ℕ) (s : ShowsImplied book sessio
   whole : HoldsRun book session run session
   whole = passing_holds book session (sym s.passes)
 
-  pub trail_counted : (n : ℕ) → count.Of n ≡ copy_answer book session (trail_behind 0) → n ≡ length run.trail
+  pub trail_counted : (n : ℕ) → Ok n ≡ copy_answer book session (trail_behind 0) → n ≡ length run.trail
   trail_counted n told = cc (told ∙ run_count book session run session whole)
 
   pub trail_within_lem : length run.trail ≤ max_variables
   trail_within_lem = trail_few book session run session whole
 
-  pub trail_shown : (n : ℕ) → count.Refused n ≡ copy_answer book session (trail_behind 0) → ⊥
-  trail_shown n told = let z : ◌≡◌ {A = ℕ} 0 1 = cc (told ∙ run_count book session run session whole) in omega arith
+  pub trail_shown : (r : Refusal) → Err r ≡ copy_answer book session (trail_behind 0) → ⊥
+  trail_shown r told = let z : ◌≡◌ {A = ℕ} 0 1 = cc (told ∙ run_count book session run session whole) in omega arith
 
   pub implied_prints : (cause : Cause) (from to : ℕ) (zeros literals out now : List ℕ) (r : ℕ) → to ≡ length run.trail → from ≡ length run.trail - implied
       → length run.trail ≤ length zeros → literals ≡ copy_numbers book session (trail_behind 0) zeros
@@ -69,59 +69,55 @@ module _ (book session : List ℕ) (implied : ℕ) (s : ShowsImplied book sessio
       printed_as (ap (implied_line cause) same) w
 
 -- a call that propagated, by the cases of its answer
-module _ (book session : List ℕ) (cause : Cause) (made : Answer) (out now : List ℕ) (r : ℕ) where
-  pub shown_implied : (n : ℕ) → made ≡ answer.Implied n → PrintsImplied book session cause n out now r → PrintsPropagated book session cause made out now r
+module _ (book session : List ℕ) (cause : Cause) (made : Result Propagated Refusal) (out now : List ℕ) (r : ℕ) where
+  pub shown_implied : (n : ℕ) → made ≡ Ok (propagated.Implied n) → PrintsImplied book session cause n out now r → PrintsPropagated book session cause made out now r
   unfolding propagated_bytes
   shown_implied n told p = rw told p
 
-  pub shown_conflict : (clause : ℕ) → made ≡ answer.Conflict clause → Written (clause_line cause clause) out now r → PrintsPropagated book session cause made out now r
+  pub shown_conflict : (clause : ℕ) → made ≡ Ok (propagated.Conflict clause) → Written (clause_line cause clause) out now r → PrintsPropagated book session cause made out now r
   unfolding propagated_bytes
   shown_conflict clause told w = rw told (printed w)
 
-  pub shown_refusal : (n : ℕ) → made ≡ answer.Refused n → Written (refused_line n) out now r → PrintsPropagated book session cause made out now r
+  pub shown_refusal : (refusal : Refusal) → made ≡ Err refusal → Written (refused_line (number_of refusal)) out now r → PrintsPropagated book session cause made out now r
   unfolding propagated_bytes
-  shown_refusal n told w = rw told (printed w)
+  shown_refusal refusal told w = rw told (printed w)
 
 -- an opening, by the cases of its answer
-module _ (book session after : List ℕ) (made : Answer) (out now : List ℕ) (r : ℕ) (a : made ≡ open_answer book (length session)) (e : after ≡ open_numbers book session)
+module _ (book session after : List ℕ) (made : Result Propagated Refusal) (out now : List ℕ) (r : ℕ) (a : made ≡ open_answer book (length session)) (e : after ≡ open_numbers book session)
     (p : PrintsPropagated book after Opening made out now r) where
   opened : start_left (started_by made r) book after now ≡ opening book session out
   unfolding opening open_bytes
   opened = rw (p.bytes, p.count, e, ← a)
 
-  pub opened_implied : (n : ℕ) → made ≡ answer.Implied n → start_left (started.Open r) book after now ≡ opening book session out
+  pub opened_ok : (p : Propagated) → made ≡ Ok p → start_left (started.Open r) book after now ≡ opening book session out
   unfolding started_by
-  opened_implied n told = rw told at opened
+  opened_ok p told = rw told at opened
 
-  pub opened_conflict : (clause : ℕ) → made ≡ answer.Conflict clause → start_left (started.Open r) book after now ≡ opening book session out
+  pub opened_refusal : (refusal : Refusal) → made ≡ Err refusal → start_left (started.Refused r) book after now ≡ opening book session out
   unfolding started_by
-  opened_conflict clause told = rw told at opened
-
-  pub opened_refusal : (n : ℕ) → made ≡ answer.Refused n → start_left (started.Refused r) book after now ≡ opening book session out
-  unfolding started_by
-  opened_refusal n told = rw told at opened
+  opened_refusal refusal told = rw told at opened
 
 -- a line, by what it asks for
 module _ (book session line : List ℕ) (kept : ℕ) (after out now : List ℕ) (r : ℕ) where
-  pub answered_malformed : asks.Malformed ≡ line_of (take kept line) → after ≡ session → Written (refused_line 18) out now r
+  pub answered_malformed : None ≡ line_of (take kept line) → after ≡ session → Written (refused_line 18) out now r
       → PrintsLine book session after line kept out now r
   unfolding line_answer line_numbers
   answered_malformed told e w = record { prints = rw (← told) (printed w); numbers = rw (← told) e }
 
-  pub answered_choice : (l : ℕ) (made : Answer) → asks.Choose l ≡ line_of (take kept line) → made ≡ decide_answer book session l
+  pub answered_choice : (l : ℕ) (made : Result Propagated Refusal) → Some (asks.Choose l) ≡ line_of (take kept line) → made ≡ decide_answer book session l
       → after ≡ decide_numbers book session l → PrintsPropagated book after (Decision l) made out now r → PrintsLine book session after line kept out now r
   unfolding line_answer line_numbers
   answered_choice l made told a e p = record { prints = rw (← told, ← a, ← e) p; numbers = rw (← told) e }
 
-  pub answered_back : (k : ℕ) → asks.Back k ≡ line_of (take kept line) → back.Done ≡ backtrack_answer book session k → after ≡ backtrack_numbers book session k
+  pub answered_back : (k : ℕ) → Some (asks.Back k) ≡ line_of (take kept line) → Ok tt ≡ backtrack_answer book session k → after ≡ backtrack_numbers book session k
       → Written (back_line k) out now r → PrintsLine book session after line kept out now r
   unfolding line_answer line_numbers back_bytes
   answered_back k told a e w = record { prints = rw (← told, ← a) (printed w); numbers = rw (← told) e }
 
-  pub answered_refusal : (k n : ℕ) → asks.Back k ≡ line_of (take kept line) → back.Refused n ≡ backtrack_answer book session k → after ≡ backtrack_numbers book session k
-      → Written (refused_line n) out now r → PrintsLine book session after line kept out now r
+  pub answered_refusal : (k : ℕ) (refusal : Refusal) → Some (asks.Back k) ≡ line_of (take kept line) → Err refusal ≡ backtrack_answer book session k → after ≡ backtrack_numbers book session k
+      → Written (refused_line (number_of refusal)) out now r → PrintsLine book session after line kept out now r
   unfolding line_answer line_numbers back_bytes
-  answered_refusal k n told a e w = record { prints = rw (← told, ← a) (printed w); numbers = rw (← told) e }
+  answered_refusal k refusal told a e w = record { prints = rw (← told, ← a) (printed w); numbers = rw (← told) e }
 
 -- a line that has begun, or none
 module _ (book session line : List ℕ) (kept : ℕ) (out : List ℕ) where
@@ -139,15 +135,15 @@ module _ (book session line : List ℕ) (kept : ℕ) (out : List ℕ) where
 
 -- the last line
 module _ (book session out now : List ℕ) (r : ℕ) where
-  pub ended_unsummed : (n : ℕ) → total.Refused n ≡ total_answer book session → Written (refused_line n) out now r → Prints (last_line book session) out now r
+  pub ended_unsummed : (refusal : Refusal) → Err refusal ≡ total_answer book session → Written (refused_line (number_of refusal)) out now r → Prints (last_line book session) out now r
   unfolding last_line end_bytes
-  ended_unsummed n t w = rw (← t) (printed w)
+  ended_unsummed refusal t w = rw (← t) (printed w)
 
-  module _ (v : ℕ) (t : total.Checks v ≡ total_answer book session) where
-    pub ended_unshown : (n : ℕ) → shown.Refused n ≡ figures_answer book session → Written (refused_line n) out now r → Prints (last_line book session) out now r
+  module _ (v : ℕ) (t : Ok v ≡ total_answer book session) where
+    pub ended_unshown : (refusal : Refusal) → Err refusal ≡ figures_answer book session → Written (refused_line (number_of refusal)) out now r → Prints (last_line book session) out now r
     unfolding last_line end_bytes
-    ended_unshown n f w = rw (← t, ← f) (printed w)
+    ended_unshown refusal f w = rw (← t, ← f) (printed w)
 
-    pub ended_shown : (d b n c : ℕ) → shown.Of d b n c ≡ figures_answer book session → Written (end_line d b v) out now r → Prints (last_line book session) out now r
+    pub ended_shown : (shown : Shown) → Ok shown ≡ figures_answer book session → Written (end_line shown.decisions shown.backtracks v) out now r → Prints (last_line book session) out now r
     unfolding last_line end_bytes
-    ended_shown d b n c f w = rw (← t, ← f) (printed w)
+    ended_shown shown f w = rw (← t, ← f) (printed w)

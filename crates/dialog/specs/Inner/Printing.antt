@@ -1,12 +1,13 @@
 -- What the contracts of src/answers.rt cite: a line stands in a lent buffer.
-use Rattle.std.specs.Prelude.{ℕ, ◌-◌, ◌≤◌, ◌≡◌, List, length, take}
+use Rattle.std.specs.Prelude.{ℕ, ◌-◌, ◌≤◌, ◌≡◌, List, length, take, Result, Ok}
+use Rattle.refusals.specs.declared.Refusal.{Refusal}
 use Rattle.base.specs.Lists.{copied}
 use Rattle.book.specs.Numbers.{formula_of}
 use Rattle.run.specs.Run.{trail_behind}
 use Rattle.layout.specs.Layout.{held}
 use Rattle.validation.specs.Validation.{read_refusal}
-use Rattle.session.specs.declared.Answer.{Answer}
-use Rattle.session.specs.declared.Answer.TheVariants.{Implied}
+use Rattle.session.specs.declared.Propagated.{Propagated}
+use Rattle.session.specs.declared.Propagated.TheVariants.{Implied}
 use Rattle.script.specs.declared.Cause.{Cause}
 use Rattle.script.specs.Script.{line_of}
 use Rattle.script.specs.Answers.{implied_line}
@@ -24,8 +25,8 @@ pub record ShowsImplied (book session : List ℕ) (implied : ℕ) : Type 0 where
   pub passes : read_refusal book session ≡ 0
   pub few : implied ≤ length (held (formula_of book) session).trail
 
-abbrev pub ShowsPropagated : List ℕ → List ℕ → Answer → Type 0
-ShowsPropagated book session answer = (n : ℕ) → answer ≡ Implied n → ShowsImplied book session n
+abbrev pub ShowsPropagated : List ℕ → List ℕ → Result Propagated Refusal → Type 0
+ShowsPropagated book session answer = (n : ℕ) → answer ≡ Ok (Implied n) → ShowsImplied book session n
 
 abbrev pub PrintsImplied : List ℕ → List ℕ → Cause → ℕ → List ℕ → List ℕ → ℕ → Type 0
 PrintsImplied book session cause implied out now r =
@@ -33,7 +34,7 @@ PrintsImplied book session cause implied out now r =
     (implied_line cause (trail_behind (length (held (formula_of book) session).trail - implied) (held (formula_of book) session)))
     out now r
 
-abbrev pub PrintsPropagated : List ℕ → List ℕ → Cause → Answer → List ℕ → List ℕ → ℕ → Type 0
+abbrev pub PrintsPropagated : List ℕ → List ℕ → Cause → Result Propagated Refusal → List ℕ → List ℕ → ℕ → Type 0
 PrintsPropagated book session cause answer out now r = Prints (propagated_bytes cause answer (held (formula_of book) session)) out now r
 
 -- a kept line is answered, and the session is the one behind it
