@@ -1,8 +1,8 @@
 -- What `start`, `take` and `finish` leave, way out by way out.
 use Rattle.book.specs.declared.Sizes.{Sizes}
-use Rattle.std.specs.Prelude.{Option, Some, None, Result, Ok, Err, ⊤}
+use Rattle.std.specs.Prelude.{Ok, Err}
 use Rattle.refusals.specs.declared.Refusal.{Refusal}
-use Rattle.refusals.specs.Refusals.{number_of, refusal_of, outcome}
+use Rattle.refusals.specs.Refusals.{number_of}
 use Prim.Native.Nat.{ℕ, ◌+◌, ◌-◌, ◌≤◌, ◌<◌}
 use mathlib.Core.Path.{◌≡◌, ◌∙◌}
 use mathlib.Core.List.{List, ◌++◌}

@@ -1,10 +1,9 @@
 -- The bytes that `start`, `take` and `finish` hand out, joined, are the output of the script program, however the script is parted.
-use Rattle.std.specs.Prelude.{Option, Some, None, Result, Ok, Err, ⊤}
+use Rattle.std.specs.Prelude.{Option, Result}
 use Rattle.refusals.specs.declared.Refusal.{Refusal}
-use Rattle.refusals.specs.Refusals.{number_of, refusal_of, outcome}
-use Prim.Native.Nat.{ℕ, zero, suc, ◌-◌, ◌≤◌}
+use Prim.Native.Nat.{ℕ, zero, suc, ◌≤◌}
 use mathlib.Core.Path.{◌≡◌, refl, ap, ap₂, sym, ◌∙◌}
-use mathlib.Core.Bool.{Bool, true, false, cond}
+use mathlib.Core.Bool.{Bool, true, false}
 use mathlib.Core.List.{List, [], ◌∷◌, ◌++◌, append_assoc}
 use native.Mathlib.Omega.{arith}
 use native.Mathlib.Numerals.{add-one}
@@ -20,12 +19,11 @@ use Rattle.book.specs.Reading.{Judged, refused, accepted, read_text}
 use Rattle.book.proofs.FaultLaws.{refused_number}
 use Rattle.book.proofs.Accepted.{accepted_sound, accepted_well_formed}
 use Rattle.book.proofs.NumberLaws.{book_fits, formula_of_numbers}
-use Rattle.run.specs.Run.{Run, open_run, in_conflict}
+use Rattle.run.specs.Run.{Run, open_run}
 use Rattle.layout.specs.Layout.{max_session}
-use Rattle.session.specs.Outcomes.{propagated_answer, open_numbers, open_refusal}
+use Rattle.session.specs.Outcomes.{open_numbers, open_refusal}
 use Rattle.session.proofs.Statements.{numbers_suffice}
 use Rattle.session.specs.declared.Propagated.{Propagated}
-use Rattle.session.specs.declared.Propagated.TheVariants as propagated
 use Rattle.script.specs.declared.Line.{Line}
 use Rattle.script.specs.declared.Cause.TheVariants.{Opening}
 use Rattle.script.specs.Script.{line_of, script_lines, line_bytes}

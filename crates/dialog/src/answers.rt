@@ -52,9 +52,11 @@ fn show_propagated(
     ensures { PrintsPropagated book.now session.now cause answer out.old out.new result }
 {
     match answer {
-        Ok(Propagated::Implied(implied)) => show_implied(book, session, cause, implied, out),
-        Ok(Propagated::Conflict(clause)) => script::write_clause(cause, clause, out),
         Err(refusal) => script::write_refused(refusal.number(), out),
+        Ok(propagated) => match propagated {
+            Propagated::Implied(implied) => show_implied(book, session, cause, implied, out),
+            Propagated::Conflict(clause) => script::write_clause(cause, clause, out),
+        },
     }
 }
 

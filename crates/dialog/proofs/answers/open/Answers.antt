@@ -1,5 +1,3 @@
-use Prim.Native.Nat.{ℕ}
-use mathlib.Core.List.{List}
 use mathlib.Core.Path.{sym, ◌∙◌}
 use Rattle.dialog.proofs.OutcomeLaws.{opening_shows}
 use Rattle.dialog.proofs.answers.Laws.{opened_ok, opened_refusal}
