@@ -3,7 +3,7 @@ use Prim.Native.Nat.{ℕ, suc, ◌%◌, ◌≤◌, ◌<◌}
 use mathlib.Core.Bool.{true, false, ◌&&◌}
 use mathlib.Core.List.{List}
 use mathlib.Core.Logic.{◌↔◌, ◌⊎◌, inl, inr}
-use mathlib.Core.Path.{◌≡◌, sym, ap, ◌∙◌}
+use mathlib.Core.Path.{◌≡◌, refl, sym, ap, ◌∙◌}
 use native.Mathlib.Omega.{arith}
 use borrow.Author.Tests.{eqb-true, eq-eqb, leb-true, le-leb, not-false}
 use lib.Dec.{leb, eqb}
@@ -13,11 +13,12 @@ use Rattle.base.proofs.Bools.{alike, never, true_or_false, both, and_parts, refu
 use Rattle.base.proofs.Counts.{First, first_or_none}
 use Rattle.base.proofs.Lists.{all_middle, all_split}
 use Rattle.base.proofs.Threes.{any_three, whole_threes, threes_all, ranged_parts}
-use Rattle.bands.specs.Bands.{max_bands, max_age, max_factor, band_of, bands_of, band_within, table_within, holders, at_fault, fault_number, checked_table}
+use Rattle.bands.specs.Bands.{max_bands, max_age, max_factor, band_of, bands_of, band_within, table_within, holders, at_fault, fault_at, checked_table}
 use Rattle.bands.specs.Statement.{InRange, GoodTable, LowestFault}
 use Rattle.bands.specs.declared.Band.{Band}
-use Rattle.bands.specs.declared.Checked.TheVariants.{Good, Malformed, Fault}
-use Rattle.bands.proofs.TableLaws.{within_is, outside, at_fault_lem, not_at_fault, number_25, number_26, reports_good, reports_fault}
+use Rattle.bands.specs.declared.TableFault.TheVariants.{Malformed, Gap, Overlap}
+use Rattle.std.specs.Prelude.{Ok, Err}
+use Rattle.bands.proofs.TableLaws.{within_is, outside, at_fault_lem, not_at_fault, in_none, in_several, reports_good, reports_fault}
 
 module _ (numbers : List ℕ) where
   -- The ranges, in the request's words.
@@ -61,70 +62,78 @@ module _ (numbers : List ℕ) where
   held_other : (age : ℕ) → at_fault (bands_of numbers) age ≡ true → holders age (bands_of numbers) ≡ 1 → ⊥
   held_other age e one = never e (not_at_fault numbers age one)
 
-  -- which number it is
-  number_is : (age : ℕ) → (holders age (bands_of numbers) ≡ 1 → ⊥)
-      → ((fault_number (bands_of numbers) age ≡ 25) × (holders age (bands_of numbers) ≡ 0)) ⊎ ((fault_number (bands_of numbers) age ≡ 26) × (1 < holders age (bands_of numbers)))
-  number_is age other = go (alike (holders age (bands_of numbers)) 0)
+  -- an age at fault lies in none, or in several
+  abbrev Kind : ℕ → Type 0
+  Kind age = ((fault_at (bands_of numbers) age ≡ Gap age) × (holders age (bands_of numbers) ≡ 0)) ⊎ ((fault_at (bands_of numbers) age ≡ Overlap age) × (1 < holders age (bands_of numbers)))
+
+  kind_of : (age : ℕ) → (holders age (bands_of numbers) ≡ 1 → ⊥) → Kind age
+  kind_of age other = go (alike (holders age (bands_of numbers)) 0)
     where
-      go : (holders age (bands_of numbers) ≡ 0) ⊎ (holders age (bands_of numbers) ≡ 0 → ⊥)
-          → ((fault_number (bands_of numbers) age ≡ 25) × (holders age (bands_of numbers) ≡ 0)) ⊎ ((fault_number (bands_of numbers) age ≡ 26) × (1 < holders age (bands_of numbers)))
-      go (inl none) = inl (sym (number_25 numbers age none), none)
-      go (inr some) = let several : 1 < holders age (bands_of numbers) = omega (arith, some, other) in inr (sym (number_26 numbers age several), several)
+      go : (holders age (bands_of numbers) ≡ 0) ⊎ (holders age (bands_of numbers) ≡ 0 → ⊥) → Kind age
+      go (inl none) = inl (sym (in_none numbers age none), none)
+      go (inr some) = let several : 1 < holders age (bands_of numbers) = omega (arith, some, other) in inr (sym (in_several numbers age several), several)
 
-  -- a table within its ranges is good, or has a lowest age at fault
-  first_is : table_within numbers ≡ true → (age : ℕ) → First (suc max_age) (at_fault (bands_of numbers)) age → LowestFault numbers (fault_number (bands_of numbers) age) age
-  first_is within age first =
-      record {
-        within = in_range.0 within;
-        is_age = omega (arith, first.small);
-        fault = number_is age (held_other age first.holds);
-        none_lower = λ lower h. held_one lower (first.none_before lower h);
-      }
-
-  -- The three reports.
+  -- The four reports of a table.
   abbrev Reports : Type 0
   Reports =
-      ((table_within numbers ≡ false) × (checked_table numbers ≡ Malformed))
-      ⊎ (GoodTable numbers × (checked_table numbers ≡ Good))
-      ⊎ ((number age : ℕ) × LowestFault numbers number age × (checked_table numbers ≡ Fault number age))
+      ((table_within numbers ≡ false) × (checked_table numbers ≡ Err Malformed))
+      ⊎ (GoodTable numbers × (checked_table numbers ≡ Ok tt))
+      ⊎ ((age : ℕ) × LowestFault numbers 25 age × (checked_table numbers ≡ Err (Gap age)))
+      ⊎ ((age : ℕ) × LowestFault numbers 26 age × (checked_table numbers ≡ Err (Overlap age)))
+
+  -- the lowest age at fault, whatever is at fault with it
+  lowest : table_within numbers ≡ true → (number age : ℕ) → First (suc max_age) (at_fault (bands_of numbers)) age
+      → ((number ≡ 25) × (holders age (bands_of numbers) ≡ 0)) ⊎ ((number ≡ 26) × (1 < holders age (bands_of numbers))) → LowestFault numbers number age
+  lowest within number age first fault =
+      record { within = in_range.0 within; is_age = omega (arith, first.small); fault = fault; none_lower = λ lower h. held_one lower (first.none_before lower h) }
 
   reports : Reports
   reports = go (true_or_false (table_within numbers)) (first_or_none (suc max_age) (at_fault (bands_of numbers)))
     where
+      told : table_within numbers ≡ true → (age : ℕ) → First (suc max_age) (at_fault (bands_of numbers)) age → Kind age → Reports
+      told within age first (inl kind) =
+          inr (inr (inl (age, lowest within 25 age first (inl (refl, kind.1)), sym (reports_fault numbers within age first) ∙ ap Err kind.0)))
+      told within age first (inr kind) =
+          inr (inr (inr (age, lowest within 26 age first (inr (refl, kind.1)), sym (reports_fault numbers within age first) ∙ ap Err kind.0)))
+
       go : (table_within numbers ≡ true) ⊎ (table_within numbers ≡ false)
           → ((age : ℕ) → age < suc max_age → at_fault (bands_of numbers) age ≡ false) ⊎ ((age : ℕ) × First (suc max_age) (at_fault (bands_of numbers)) age)
           → Reports
       go (inr out) found = inl (out, sym (outside numbers out))
       go (inl within) (inl none) =
           inr (inl (record { within = in_range.0 within; once = λ age h. held_one age (none age (omega arith)) }, sym (reports_good numbers within none)))
-      go (inl within) (inr found) =
-          inr (inr (fault_number (bands_of numbers) found.0, found.0, first_is within found.0 found.1, sym (reports_fault numbers within found.0 found.1)))
+      go (inl within) (inr found) = told within found.0 found.1 (kind_of found.0 (held_other found.0 found.1.holds))
 
   -- Good exactly if all is within its range and every age from 0 to 120 lies in exactly one band.
-  pub good_exactly : (checked_table numbers ≡ Good) ↔ GoodTable numbers
+  pub good_exactly : (checked_table numbers ≡ Ok tt) ↔ GoodTable numbers
   good_exactly = (
     λ e. go e reports,
     λ g. sym (reports_good numbers (in_range.1 g.within) (λ age h. not_at_fault numbers age (g.once age (omega arith)))),
   )
     where
-      go : checked_table numbers ≡ Good → Reports → GoodTable numbers
-      go e (inl k) = let z : ◌≡◌ {A = ℕ} 0 1 = cc in absurd (omega arith)
+      go : checked_table numbers ≡ Ok tt → Reports → GoodTable numbers
+      go e (inl k) = cc
       go e (inr (inl k)) = k.0
-      go e (inr (inr k)) = let z : ◌≡◌ {A = ℕ} 0 1 = cc in absurd (omega arith)
+      go e (inr (inr (inl k))) = cc
+      go e (inr (inr (inr k))) = cc
 
-  -- A fault is named exactly if it is the lowest one.
-  pub fault_exactly : (number age : ℕ) → (checked_table numbers ≡ Fault number age) ↔ LowestFault numbers number age
-  fault_exactly number age = (λ e. go e reports, λ f. told f f.fault)
+  -- A fault is named exactly if it is the lowest one: 25, its age lies in no band, and 26, in several.
+  pub fault_exactly : (age : ℕ) → ((checked_table numbers ≡ Err (Gap age)) ↔ LowestFault numbers 25 age) × ((checked_table numbers ≡ Err (Overlap age)) ↔ LowestFault numbers 26 age)
+  fault_exactly age = ((λ e. gap e reports, λ f. told_gap f f.fault), (λ e. overlap e reports, λ f. told_overlap f f.fault))
     where
-      go : checked_table numbers ≡ Fault number age → Reports → LowestFault numbers number age
-      go e (inl k) = let z : ◌≡◌ {A = ℕ} 0 1 = cc in absurd (omega arith)
-      go e (inr (inl k)) = let z : ◌≡◌ {A = ℕ} 0 1 = cc in absurd (omega arith)
-      go e (inr (inr k)) =
-          let same_number : k.0 ≡ number = cc in
-          let same-age : k.1 ≡ age = cc in
-          rw (← same_number, ← same-age) k.2
+      gap : checked_table numbers ≡ Err (Gap age) → Reports → LowestFault numbers 25 age
+      gap e (inl k) = cc
+      gap e (inr (inl k)) = cc
+      gap e (inr (inr (inl k))) = let same : k.0 ≡ age = cc in rw (← same) k.1
+      gap e (inr (inr (inr k))) = cc
 
-      first : LowestFault numbers number age → (holders age (bands_of numbers) ≡ 1 → ⊥) → First (suc max_age) (at_fault (bands_of numbers)) age
+      overlap : checked_table numbers ≡ Err (Overlap age) → Reports → LowestFault numbers 26 age
+      overlap e (inl k) = cc
+      overlap e (inr (inl k)) = cc
+      overlap e (inr (inr (inl k))) = cc
+      overlap e (inr (inr (inr k))) = let same : k.0 ≡ age = cc in rw (← same) k.1
+
+      first : {number : ℕ} → LowestFault numbers number age → (holders age (bands_of numbers) ≡ 1 → ⊥) → First (suc max_age) (at_fault (bands_of numbers)) age
       first f other =
           record {
             small = omega (arith, f.is_age);
@@ -132,19 +141,20 @@ module _ (numbers : List ℕ) where
             none_before = λ lower h. not_at_fault numbers lower (f.none_lower lower h);
           }
 
-      told : LowestFault numbers number age → ((number ≡ 25) × (holders age (bands_of numbers) ≡ 0)) ⊎ ((number ≡ 26) × (1 < holders age (bands_of numbers))) → checked_table numbers ≡ Fault number age
-      told f (inl k) =
-          sym (reports_fault numbers (in_range.1 f.within) age (first f (λ one. omega (arith, one, k.1))))
-          ∙ ap (λ (n : ℕ). Fault n age) (sym (number_25 numbers age k.1) ∙ sym k.0)
-      told f (inr k) =
-          sym (reports_fault numbers (in_range.1 f.within) age (first f (λ one. omega (arith, one, k.1))))
-          ∙ ap (λ (n : ℕ). Fault n age) (sym (number_26 numbers age k.1) ∙ sym k.0)
+      told_gap : LowestFault numbers 25 age → (◌≡◌ {A = ℕ} 25 25 × (holders age (bands_of numbers) ≡ 0)) ⊎ (◌≡◌ {A = ℕ} 25 26 × (1 < holders age (bands_of numbers))) → checked_table numbers ≡ Err (Gap age)
+      told_gap f (inl k) = sym (reports_fault numbers (in_range.1 f.within) age (first f (λ one. omega (arith, one, k.1)))) ∙ ap Err (sym (in_none numbers age k.1))
+      told_gap f (inr k) = absurd (omega (arith, k.0))
+
+      told_overlap : LowestFault numbers 26 age → (◌≡◌ {A = ℕ} 26 25 × (holders age (bands_of numbers) ≡ 0)) ⊎ (◌≡◌ {A = ℕ} 26 26 × (1 < holders age (bands_of numbers))) → checked_table numbers ≡ Err (Overlap age)
+      told_overlap f (inl k) = absurd (omega (arith, k.0))
+      told_overlap f (inr k) = sym (reports_fault numbers (in_range.1 f.within) age (first f (λ one. omega (arith, one, k.1)))) ∙ ap Err (sym (in_several numbers age k.1))
 
   -- False exactly if something is outside its range, whatever ages are at fault.
-  pub malformed_exactly : (checked_table numbers ≡ Malformed) ↔ (InRange numbers → ⊥)
+  pub malformed_exactly : (checked_table numbers ≡ Err Malformed) ↔ (InRange numbers → ⊥)
   malformed_exactly = (λ e r. go e (in_range.1 r) reports, λ out. sym (outside numbers (refuted (table_within numbers) (λ within. out (in_range.0 within)))))
     where
-      go : checked_table numbers ≡ Malformed → table_within numbers ≡ true → Reports → ⊥
+      go : checked_table numbers ≡ Err Malformed → table_within numbers ≡ true → Reports → ⊥
       go e within (inl k) = never within k.0
-      go e within (inr (inl k)) = let z : ◌≡◌ {A = ℕ} 0 1 = cc in omega arith
-      go e within (inr (inr k)) = let z : ◌≡◌ {A = ℕ} 0 1 = cc in omega arith
+      go e within (inr (inl k)) = cc
+      go e within (inr (inr (inl k))) = cc
+      go e within (inr (inr (inr k))) = cc

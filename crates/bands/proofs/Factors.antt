@@ -12,11 +12,12 @@ use Rattle.base.proofs.Counts.{count_reordered, kept_alone, kept_one}
 use Rattle.base.proofs.Lists.{length_reordered, all_reordered}
 use Rattle.base.proofs.Threes.{any_three, ranged_parts}
 use Rattle.bands.specs.Bands.{max_bands, max_age, max_factor, band_of, bands_of, are_bands, band_within, table_within, lies_in, bands_at, holders, checked_table, first_factor, factor_at, factor_by, factor_answer}
-use Rattle.bands.specs.Statement.{InRange, GoodTable}
+use Rattle.bands.specs.Statement.{InRange, GoodTable, LowestFault}
 use Rattle.bands.specs.declared.Band.{Band}
-use Rattle.bands.specs.declared.Checked.{Checked}
-use Rattle.bands.specs.declared.Checked.TheVariants.{Good, Malformed, Fault}
-use Rattle.bands.specs.declared.Factor.TheVariants.{Of, Refused}
+use Rattle.bands.specs.declared.TableFault.{TableFault}
+use Rattle.bands.specs.declared.TableFault.TheVariants.{Malformed, Gap, Overlap}
+use Rattle.refusals.specs.declared.Refusal.TheVariants.{PriceInput}
+use Rattle.std.specs.Prelude.{Result, Ok, Err}
 use Rattle.bands.proofs.Checker.{in_range, good_exactly, fault_exactly, malformed_exactly}
 use Rattle.bands.proofs.TableLaws.{within_is, factor_within, factor_by_lem}
 
@@ -35,19 +36,18 @@ module _ (numbers : List ℕ) (age : ℕ) where
       go false here rest = rest
 
   -- what a factor tells
-  pub factor_told : (factor : ℕ) → Of factor ≡ factor_answer numbers age → (age ≤ max_age) × (checked_table numbers ≡ Good) × (factor ≡ factor_at age (bands_of numbers))
+  pub factor_told : (factor : ℕ) → Ok factor ≡ factor_answer numbers age → (age ≤ max_age) × (checked_table numbers ≡ Ok tt) × (factor ≡ factor_at age (bands_of numbers))
   unfolding factor_answer
   factor_told factor e = go (leb age max_age) (checked_table numbers) refl refl e
     where
-      go : (t : Bool) (report : Checked) → leb age max_age ≡ t → checked_table numbers ≡ report
-          → Of factor ≡ cond t (factor_by age (bands_of numbers) report) (Refused 19)
-          → (age ≤ max_age) × (checked_table numbers ≡ Good) × (factor ≡ factor_at age (bands_of numbers))
-      go true Good p q r = (leb-true age max_age p, q, cc)
-      go true Malformed p q r = let z : ◌≡◌ {A = ℕ} 0 1 = cc in absurd (omega arith)
-      go true (Fault number lowest) p q r = let z : ◌≡◌ {A = ℕ} 0 1 = cc in absurd (omega arith)
-      go false report p q r = let z : ◌≡◌ {A = ℕ} 0 1 = cc in absurd (omega arith)
+      go : (t : Bool) (report : Result (Unit {0}) TableFault) → leb age max_age ≡ t → checked_table numbers ≡ report
+          → Ok factor ≡ cond t (factor_by age (bands_of numbers) report) (Err PriceInput)
+          → (age ≤ max_age) × (checked_table numbers ≡ Ok tt) × (factor ≡ factor_at age (bands_of numbers))
+      go true (Ok good) p q r = (leb-true age max_age p, q, cc)
+      go true (Err fault) p q r = cc
+      go false report p q r = cc
 
-  pub factor_most : (factor : ℕ) → Of factor ≡ factor_answer numbers age → factor ≤ max_factor
+  pub factor_most : (factor : ℕ) → Ok factor ≡ factor_answer numbers age → factor ≤ max_factor
   unfolding bands_of
   factor_most factor e =
       let told = factor_told factor e in
@@ -56,12 +56,12 @@ module _ (numbers : List ℕ) (age : ℕ) where
 
 -- On a good table an age from 0 to 120 lies in one band alone, and its factor is that band's.
 pub own_factor : (numbers : List ℕ) → GoodTable numbers → (age : ℕ) → age ≤ max_age
-    → (own : Band) × (bands_at age (bands_of numbers) ≡ own ∷ []) × (factor_at age (bands_of numbers) ≡ own.factor) × (factor_answer numbers age ≡ Of own.factor)
+    → (own : Band) × (bands_at age (bands_of numbers) ≡ own ∷ []) × (factor_at age (bands_of numbers) ≡ own.factor) × (factor_answer numbers age ≡ Ok own.factor)
 unfolding bands_at factor_at
 own_factor numbers good age h =
     let found = kept_one (lies_in age) (bands_of numbers) (good.once age h) in
     let is = ap first_factor found.1 in
-    (found.0, found.1, is, sym (factor_by_lem numbers age h Good (sym ((good_exactly numbers).1 good))) ∙ ap Of is)
+    (found.0, found.1, is, sym (factor_by_lem numbers age h (Ok tt) (sym ((good_exactly numbers).1 good))) ∙ ap Ok is)
 
 -- Two tables of whole bands, the same ones in any order:
 module _ (numbers others : List ℕ) (whole : are_bands numbers ≡ true) (whole-too : are_bands others ≡ true) (r : Reordered (bands_of numbers) (bands_of others)) where
@@ -80,24 +80,24 @@ module _ (numbers others : List ℕ) (whole : are_bands numbers ≡ true) (whole
   pub any_order : checked_table numbers ≡ checked_table others
   any_order = go (checked_table numbers) refl
     where
-      go : (report : Checked) → checked_table numbers ≡ report → checked_table numbers ≡ checked_table others
-      go Good e =
-          let good = (good_exactly numbers).0 e in
-          e ∙ sym ((good_exactly others).1 (record { within = both_ranges good.within; once = λ age h. sym (same-holders age) ∙ good.once age h }))
-      go Malformed e = e ∙ sym ((malformed_exactly others).1 (λ in-others. (malformed_exactly numbers).0 e ((in_range numbers).0 (same_range ∙ (in_range others).1 in-others))))
-      go (Fault number age) e =
-          let fault = (fault_exactly numbers number age).0 e in
-          e
-          ∙ sym
-          ((fault_exactly others number age).1
-          (record {
+      fault_there : (number age : ℕ) → LowestFault numbers number age → LowestFault others number age
+      fault_there number age fault =
+          record {
             within = both_ranges fault.within;
             is_age = fault.is_age;
             fault = rw (same-holders age) at fault.fault;
             none_lower = λ lower h. sym (same-holders lower) ∙ fault.none_lower lower h;
-          }))
+          }
 
-  same_factor : checked_table numbers ≡ Good → (age : ℕ) → age ≤ max_age → factor_at age (bands_of numbers) ≡ factor_at age (bands_of others)
+      go : (report : Result (Unit {0}) TableFault) → checked_table numbers ≡ report → checked_table numbers ≡ checked_table others
+      go (Ok good) e =
+          let good = (good_exactly numbers).0 e in
+          e ∙ sym ((good_exactly others).1 (record { within = both_ranges good.within; once = λ age h. sym (same-holders age) ∙ good.once age h }))
+      go (Err Malformed) e = e ∙ sym ((malformed_exactly others).1 (λ in-others. (malformed_exactly numbers).0 e ((in_range numbers).0 (same_range ∙ (in_range others).1 in-others))))
+      go (Err (Gap age)) e = e ∙ sym ((fault_exactly others age).0.1 (fault_there 25 age ((fault_exactly numbers age).0.0 e)))
+      go (Err (Overlap age)) e = e ∙ sym ((fault_exactly others age).1.1 (fault_there 26 age ((fault_exactly numbers age).1.0 e)))
+
+  same_factor : checked_table numbers ≡ Ok tt → (age : ℕ) → age ≤ max_age → factor_at age (bands_of numbers) ≡ factor_at age (bands_of others)
   unfolding factor_at bands_at
   same_factor e age h = ap first_factor (kept_alone (lies_in age) r (((good_exactly numbers).0 e).once age h))
 
@@ -106,9 +106,8 @@ module _ (numbers others : List ℕ) (whole : are_bands numbers ≡ true) (whole
   unfolding factor_answer
   any_order_factor age = rw (← any_order) (go (leb age max_age) (checked_table numbers) refl refl)
     where
-      go : (t : Bool) (report : Checked) → leb age max_age ≡ t → checked_table numbers ≡ report
-          → cond t (factor_by age (bands_of numbers) report) (Refused 19) ≡ cond t (factor_by age (bands_of others) report) (Refused 19)
-      go true Good p q = ap Of (same_factor q age (leb-true age max_age p))
-      go true Malformed p q = refl
-      go true (Fault number lowest) p q = refl
+      go : (t : Bool) (report : Result (Unit {0}) TableFault) → leb age max_age ≡ t → checked_table numbers ≡ report
+          → cond t (factor_by age (bands_of numbers) report) (Err PriceInput) ≡ cond t (factor_by age (bands_of others) report) (Err PriceInput)
+      go true (Ok good) p q = ap Ok (same_factor q age (leb-true age max_age p))
+      go true (Err fault) p q = refl
       go false report p q = refl

@@ -1,11 +1,11 @@
 -- Request K9, age bands the insurer edits: the table, what the checker reports of it, and the factor of an age.
-use Rattle.std.specs.Prelude.{ℕ, suc, ◌%◌, Bool, cond, not, ◌&&◌, List, [], ◌∷◌, leb, eqb, length}
+use Rattle.std.specs.Prelude.{ℕ, suc, ◌%◌, Bool, cond, not, ◌&&◌, List, [], ◌∷◌, leb, eqb, length, ⊤, Result, Ok, Err}
 use Rattle.base.specs.Lists.{all, keep, table, by_three}
 use Rattle.bands.specs.declared.Band.{Band}
-use Rattle.bands.specs.declared.Checked.{Checked}
-use Rattle.bands.specs.declared.Checked.TheVariants.{Good, Malformed, Fault}
-use Rattle.bands.specs.declared.Factor.{Factor}
-use Rattle.bands.specs.declared.Factor.TheVariants.{Of, Refused}
+use Rattle.bands.specs.declared.TableFault.{TableFault}
+use Rattle.bands.specs.declared.TableFault.TheVariants.{Malformed, Gap, Overlap}
+use Rattle.refusals.specs.declared.Refusal.{Refusal}
+use Rattle.refusals.specs.declared.Refusal.TheVariants.{PriceInput, AgeGap, AgeOverlap}
 
 -- The limits: bands, years of an age, thousandths of a factor.
 abbrev pub max_bands : ℕ
@@ -52,18 +52,18 @@ ages = table (suc max_age) (λ (age : ℕ). age)
 unfoldable pub at_fault : List Band → ℕ → Bool
 at_fault bands age = not (eqb (holders age bands) 1)
 
--- The numbers: 25, the age lies in no band; 26, it lies in several.
-unfoldable pub fault_number : List Band → ℕ → ℕ
-fault_number bands age = cond (eqb (holders age bands) 0) 25 26
+-- What is at fault with such an age: it lies in no band, or in several.
+unfoldable pub fault_at : List Band → ℕ → TableFault
+fault_at bands age = cond (eqb (holders age bands) 0) (Gap age) (Overlap age)
 
 -- The first of the ages at fault, which is the lowest.
-abbrev first_fault : List Band → List ℕ → Checked
-first_fault bands [] = Good
-first_fault bands (age ∷ higher) = Fault (fault_number bands age) age
+abbrev first_fault : List Band → List ℕ → Result ⊤ TableFault
+first_fault bands [] = Ok tt
+first_fault bands (age ∷ higher) = Err (fault_at bands age)
 
 -- What the checker reports: `Malformed`, which is the paper's false; the lowest age at fault; or that the table is good.
-unfoldable pub checked_table : List ℕ → Checked
-checked_table numbers = cond (table_within numbers) (first_fault (bands_of numbers) (keep (at_fault (bands_of numbers)) ages)) Malformed
+unfoldable pub checked_table : List ℕ → Result ⊤ TableFault
+checked_table numbers = cond (table_within numbers) (first_fault (bands_of numbers) (keep (at_fault (bands_of numbers)) ages)) (Err Malformed)
 
 -- The factor of an age: that of its band, the first of several; 0 where there is none.
 abbrev pub first_factor : List Band → ℕ
@@ -73,11 +73,15 @@ first_factor (band ∷ bands) = band.factor
 unfoldable pub factor_at : ℕ → List Band → ℕ
 factor_at age bands = first_factor (bands_at age bands)
 
--- For a call that prices: 19, an age over 120 or a table reported as false; then 25 or 26, whatever the age; else the factor of the age.
-abbrev pub factor_by : ℕ → List Band → Checked → Factor
-factor_by age bands Good = Of (factor_at age bands)
-factor_by age bands Malformed = Refused 19
-factor_by age bands (Fault number lowest) = Refused number
+-- For a call that prices: 19, an age over 120 or a table reported as false; then 25, an age lies in no band, or 26, in several, whatever the age; else the factor of the age.
+abbrev pub refused_by : TableFault → Refusal
+refused_by Malformed = PriceInput
+refused_by (Gap age) = AgeGap
+refused_by (Overlap age) = AgeOverlap
 
-unfoldable pub factor_answer : List ℕ → ℕ → Factor
-factor_answer numbers age = cond (leb age max_age) (factor_by age (bands_of numbers) (checked_table numbers)) (Refused 19)
+abbrev pub factor_by : ℕ → List Band → Result ⊤ TableFault → Result ℕ Refusal
+factor_by age bands (Ok good) = Ok (factor_at age bands)
+factor_by age bands (Err fault) = Err (refused_by fault)
+
+unfoldable pub factor_answer : List ℕ → ℕ → Result ℕ Refusal
+factor_answer numbers age = cond (leb age max_age) (factor_by age (bands_of numbers) (checked_table numbers)) (Err PriceInput)

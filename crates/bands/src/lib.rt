@@ -1,9 +1,14 @@
 // Age bands (request K9): a table of bands that the insurer edits, the lowest age at fault in it, and the factor of an age.
 #![tactic(auto)]
 
-ghost use Rattle.std.specs.Prelude.{◌≡◌, ◌∷◌, ◌<◌, ◌+◌, length, drop};
+ghost use Rattle.std.specs.Prelude.{◌≡◌, map};
 ghost use Rattle.bands.specs.Bands as bands;
-ghost use Rattle.bands.specs.Bands.{bands_of, band_within, table_within, lies_in, checked_table, factor_at, factor_answer};
+ghost use Rattle.bands.specs.Bands.{bands_of, band_within, table_within, lies_in, checked_table, factor_at, factor_answer, refused_by};
+ghost use Rattle.bands.specs.Inner.Triples.{band_from};
+
+use refusals::Refusal;
+use std::error::Error;
+use std::fmt;
 
 // The limits (`max_bands`, `max_age`, `max_factor`).
 const MAX_BANDS: usize = 64;
@@ -12,37 +17,55 @@ const MAX_AGE: u32 = 120;
 
 const MAX_FACTOR: u32 = 5000;
 
-// A band: the ages from a first one to a last one, and their factor in thousandths.
-#[derive(Clone, Copy)]
+/// A band: the ages from a first one to a last one, and their factor in thousandths.
+#[derive(Clone, Copy, Debug, PartialEq, Eq)]
 pub struct Band {
     first: u32,
     last: u32,
     factor: u32,
 }
 
-// What the checker reports of a table: it is good; something in it is outside its range (the paper's false); or the lowest age at fault, with its number.
-#[derive(Clone, Copy)]
-pub enum Checked {
-    Good,
+/// What the checker finds wrong with a table.
+#[derive(Clone, Copy, Debug, PartialEq, Eq)]
+pub enum TableFault {
+    /// Something in it is outside its range (the paper's false).
     Malformed,
-    Fault { number: u32, age: u32 },
+    /// The lowest age at fault lies in no band.
+    Gap { age: u32 },
+    /// The lowest age at fault lies in more than one band.
+    Overlap { age: u32 },
 }
 
-// The factor of an age in thousandths, or the refusal number of a call that prices.
-#[derive(Clone, Copy)]
-pub enum Factor {
-    Of(u32),
-    Refused(u32),
+impl fmt::Display for TableFault {
+    fn fmt<W: fmt::Write>(&self, f: &mut fmt::Formatter<W>) -> fmt::Result {
+        match self {
+            TableFault::Malformed => write!(f, "the table is false"),
+            TableFault::Gap { age } => write!(f, "age {age} lies in no band"),
+            TableFault::Overlap { age } => write!(f, "age {age} lies in more than one band"),
+        }
+    }
 }
 
-// The band whose three numbers begin at a place.
-fn band_at(table: &[u32], at: usize) -> Band
-    requires { at + 2 < length table.now }
-    ensures { bands_of (drop at table.now) ≡ result ∷ bands_of (drop (at + 3) table.now) }
+impl Error for TableFault {}
+
+/// The refusal of a call that prices by such a table.
+impl From<TableFault> for Refusal {
+    ghost from_gives = { λ fault refusal. refusal ≡ refused_by fault };
+
+    fn from(fault: TableFault) -> Refusal {
+        match fault {
+            TableFault::Malformed => Refusal::PriceInput,
+            TableFault::Gap { age: _ } => Refusal::AgeGap,
+            TableFault::Overlap { age: _ } => Refusal::AgeOverlap,
+        }
+    }
+}
+
+// A band by its three numbers.
+fn band_of(numbers: [u32; 3]) -> Band
+    ensures { result ≡ band_from numbers }
 {
-    let first = table[at];
-    let last = table[at + 1];
-    let factor = table[at + 2];
+    let [first, last, factor] = numbers;
     Band {
         first,
         last,
@@ -50,103 +73,92 @@ fn band_at(table: &[u32], at: usize) -> Band
     }
 }
 
+// The whole bands of a table, three numbers each.
+fn triples(table: &[u32]) -> &[[u32; 3]]
+    ensures { map band_from result.now ≡ bands_of table.now }
+{
+    table.as_chunks::<3>().0
+}
+
+#[tactic(auto, unfolding(crate::specs::Bands::band_within))]
 fn band_within(band: Band) -> bool
     ensures { result ≡ band_within band }
 {
-    if band.first > band.last {
-        return false;
-    }
-    if band.last > MAX_AGE {
-        return false;
-    }
-    band.factor <= MAX_FACTOR
+    band.first <= band.last && band.last <= MAX_AGE && band.factor <= MAX_FACTOR
 }
 
 // The numbers are at most 64 whole bands, each within its ranges.
 fn table_within(table: &[u32]) -> bool
     ensures { result ≡ table_within table.now }
 {
-    if table.len() > 3 * MAX_BANDS {
-        return false;
-    }
-    let mut at = 0;
-    while at + 2 < table.len() {
-        if !band_within(band_at(table, at)) {
-            return false;
-        }
-        at += 3;
-    }
-    at == table.len()
+    let bands = triples(table);
+    table.len() % 3 == 0
+        && bands.len() <= MAX_BANDS
+        && bands
+            .iter()
+            .copied()
+            .map(band_of)
+            .all(|band| band_within(band))
 }
 
+#[tactic(auto, unfolding(crate::specs::Bands::lies_in))]
 fn lies_in(age: u32, band: Band) -> bool
     ensures { result ≡ lies_in age band }
 {
-    if age < band.first {
-        return false;
-    }
-    age <= band.last
+    band.first <= age && age <= band.last
 }
 
 // How many bands an age lies in.
 fn holders(table: &[u32], age: u32) -> usize
     ensures { result ≡ bands.holders age (bands_of table.now) }
 {
-    let mut held = 0;
-    let mut at = 0;
-    while at + 2 < table.len() {
-        held += lies_in(age, band_at(table, at)) as usize;
-        at += 3;
-    }
-    held
+    triples(table)
+        .iter()
+        .copied()
+        .map(band_of)
+        .filter(|band| lies_in(age, *band))
+        .count()
 }
 
-// Reports the lowest age at fault.
-pub fn check_bands(table: &[u32]) -> Checked
+/// Checks a table, and reports the lowest age at fault.
+#[tactic(auto, using(crate::proofs::TableLaws::outside, crate::proofs::TableLaws::right_none, crate::proofs::TableLaws::held_none, crate::proofs::TableLaws::held_several, crate::proofs::TableLaws::right_more, crate::proofs::TableLaws::right_all))]
+pub fn check_bands(table: &[u32]) -> Result<(), TableFault>
     ensures { result ≡ checked_table table.now }
 {
     if !table_within(table) {
-        return Checked::Malformed;
+        return Err(TableFault::Malformed);
     }
-    let mut age = 0;
-    while age <= MAX_AGE {
+    for age in 0..=MAX_AGE {
         let held = holders(table, age);
         if held == 0 {
-            return Checked::Fault { number: 25, age };
+            return Err(TableFault::Gap { age });
         }
         if held > 1 {
-            return Checked::Fault { number: 26, age };
+            return Err(TableFault::Overlap { age });
         }
-        age += 1;
     }
-    Checked::Good
+    Ok(())
 }
 
 // The factor of the first band that an age lies in, or 0.
 fn first_factor(table: &[u32], age: u32) -> u32
     ensures { result ≡ factor_at age (bands_of table.now) }
 {
-    let mut at = 0;
-    while at + 2 < table.len() {
-        let band = band_at(table, at);
-        if lies_in(age, band) {
-            return band.factor;
-        }
-        at += 3;
-    }
-    0
+    triples(table)
+        .iter()
+        .copied()
+        .map(band_of)
+        .find(|band| lies_in(age, *band))
+        .map_or(0, |band| band.factor)
 }
 
-// The factor of an age in a good table.
-pub fn factor_at(table: &[u32], age: u32) -> Factor
+/// The factor of an age in a good table.
+pub fn factor_at(table: &[u32], age: u32) -> Result<u32, Refusal>
     ensures { result ≡ factor_answer table.now age }
 {
     if age > MAX_AGE {
-        return Factor::Refused(19);
+        return Err(Refusal::PriceInput);
     }
-    match check_bands(table) {
-        Checked::Good => Factor::Of(first_factor(table, age)),
-        Checked::Malformed => Factor::Refused(19),
-        Checked::Fault { number, age: _ } => Factor::Refused(number),
-    }
+    check_bands(table)?;
+    Ok(first_factor(table, age))
 }

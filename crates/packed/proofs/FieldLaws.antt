@@ -13,16 +13,15 @@ use Rattle.base.specs.Lists.{all, copied}
 use Rattle.base.proofs.Bools.{and_parts}
 use Rattle.base.proofs.Lists.{all_more, length_more}
 use Rattle.base.proofs.Signed.{size_turned}
-use Rattle.packed.specs.Packed.{bytes_of, minus, length_within, digits_in, digits, sign_of, field_of, is_digit, is_sign, decimal, signed, digits_of, sign_in, field_good, field_value, field_answer}
+use Rattle.packed.specs.Packed.{bytes_of, minus, length_within, digits_in, digits, sign_of, field_of, is_digit, is_sign, decimal, signed, digits_of, sign_in, field_good, field_value, field_answer, max_bytes, field_refusal, field_written, field_after}
 use Rattle.packed.specs.Statement.{last_byte}
-use Rattle.packed.specs.Inner.Reading.{leading_nibbles, leading_digits, closed_by}
-use Rattle.packed.specs.declared.Digits.{Digits}
-use Rattle.packed.specs.declared.Digits.TheVariants.{Number, Bad}
-use Rattle.packed.specs.declared.Field.{Field}
-use Rattle.packed.specs.declared.Field.TheVariants.{Value, Refused}
-use Rattle.packed.proofs.NibbleLaws.{length_nibbles, length_bytes, length_digits_of, digits_split, sign_last}
+use Rattle.packed.specs.Inner.Reading.{number_in, closed_by}
+use Rattle.std.specs.Prelude.{Option, Some, None, Result, Ok, Err}
+use Rattle.refusals.specs.declared.Refusal.{Refusal}
+use Rattle.refusals.specs.declared.Refusal.TheVariants.{PackedForm}
+use Rattle.packed.proofs.NibbleLaws.{leading_nibbles, length_nibbles, length_bytes, length_digits_of, digits_split, sign_last}
 use Rattle.packed.proofs.DigitLaws.{length_digits, decimal_more, decimal_below}
-use Rattle.packed.proofs.FormLaws.{length_parts}
+use Rattle.packed.proofs.FormLaws.{length_parts, field_unrefused, refused_so, written_so}
 
 -- bytes of a number's digits and any sign
 abbrev pub packed : ℕ → ℕ → ℕ → List ℕ
@@ -48,7 +47,26 @@ field_front bytes value ev out h room is =
     ap (λ (l : List ℕ). l ++ drop bytes out) (is ∙ ap₂ field_of (length-take-le bytes out room) ev)
     ∙ sym (ap₂ (λ (l : List ℕ) (n : ℕ). l ++ drop n out) (take_all (length out) (field_of bytes value) (omega arith)) long)
 
-pub unread : (bytes : List ℕ) → length_within (length bytes) ≡ false → Refused 23 ≡ field_answer bytes
+-- What writing a value answers and leaves, as the code comes to it: by a refusal of the machine's number `v`.
+module _ (value v : ℤ) (same : v ≡ value) (bytes : ℕ) (out : List ℕ) (r : Result (Unit {0}) Refusal) (told : r ≡ field_refusal v bytes (length out)) where
+  is : r ≡ field_refusal value bytes (length out)
+  is = told ∙ ap (λ (x : ℤ). field_refusal x bytes (length out)) same
+
+  pub field_refused : (refusal : Refusal) → r ≡ Err refusal → (Err refusal ≡ field_written value bytes (length out)) × (out ≡ field_after value bytes out)
+  unfolding field_written field_after
+  field_refused refusal e = refused_so (field_of bytes value) out refusal (field_refusal value bytes (length out)) (sym is ∙ e)
+
+  pub field_fits : r ≡ Ok tt → (1 ≤ bytes) × (bytes ≤ max_bytes) × (bytes ≤ length out)
+  field_fits e = field_unrefused value bytes (length out) (sym is ∙ e)
+
+  pub field_done : (field : List ℕ) → r ≡ Ok tt → field ≡ field_of (length (take bytes out)) v → (Ok bytes ≡ field_written value bytes (length out)) × (field ++ drop bytes out ≡ field_after value bytes out)
+  unfolding field_written field_after
+  field_done field e put =
+      let fits = field_fits e in
+      written_so (field_of bytes value) out bytes (field_refusal value bytes (length out)) (field ++ drop bytes out) (sym is ∙ e) (sym (length_field bytes value fits.0))
+      (field_front bytes value same out fits.0 fits.2 put)
+
+pub unread : (bytes : List ℕ) → length_within (length bytes) ≡ false → Err PackedForm ≡ field_answer bytes
 unfolding field_answer field_good
 unread bytes e = rw e
 
@@ -56,6 +74,9 @@ unread bytes e = rw e
 module _ (bytes : List ℕ) (within : length_within (length bytes) ≡ true) where
   abbrev some : 1 ≤ length bytes
   some = (length_parts (length bytes) within).0
+
+  abbrev front : List ℕ
+  front = take (length bytes - 1) bytes
 
   abbrev leads : List ℕ
   leads = leading_nibbles bytes
@@ -71,44 +92,45 @@ module _ (bytes : List ℕ) (within : length_within (length bytes) ≡ true) whe
   unfolding field_value
   value_split = rw (digits_split bytes some, sign_last bytes some, decimal_more 0 leads (last / 16))
 
-  answer_split : field_answer bytes ≡ cond (all is_digit leads) (closed_by (decimal 0 leads) last) (Refused 23)
+  answer_split : field_answer bytes ≡ cond (all is_digit leads) (closed_by (decimal 0 leads) last) (Err PackedForm)
   unfolding field_answer closed_by
-  answer_split = rw (good_split, value_split) (parted (all is_digit leads) (is_digit (last / 16)) (is_sign (last % 16)) (Value (signed (last % 16) (10 * decimal 0 leads + last / 16))))
+  answer_split = rw (good_split, value_split) (parted (all is_digit leads) (is_digit (last / 16)) (is_sign (last % 16)) (Ok (signed (last % 16) (10 * decimal 0 leads + last / 16))))
     where
-      parted : (a d s : Bool) (v : Field) → cond ((a && d) && s) v (Refused 23) ≡ cond a (cond (d && s) v (Refused 23)) (Refused 23)
+      parted : (a d s : Bool) (v : Result ℤ Refusal) → cond ((a && d) && s) v (Err PackedForm) ≡ cond a (cond (d && s) v (Err PackedForm)) (Err PackedForm)
       parted true d s v = refl
       parted false d s v = refl
 
-  -- as the code comes to it: leading digits that are bad, or a number
-  led : (d : Digits) → d ≡ leading_digits bytes → (b : Bool) → all is_digit leads ≡ b → d ≡ cond b (Number (decimal 0 leads)) Bad
-  unfolding leading_digits
-  led d e b q = e ∙ ap (λ (t : Bool). cond t (Number (decimal 0 leads)) Bad) q
+  -- as the code comes to it: what the bytes before the last one write, if their nibbles are digits
+  module _ (found : Option ℕ) (is : found ≡ number_in front) where
+    led : (b : Bool) → all is_digit leads ≡ b → found ≡ cond b (Some (decimal 0 leads)) None
+    unfolding number_in
+    led b q = is ∙ ap (λ (t : Bool). cond t (Some (decimal 0 leads)) None) q
 
-  pub read_bad : Bad ≡ leading_digits bytes → Refused 23 ≡ field_answer bytes
-  read_bad e = go (all is_digit leads) refl
-    where
-      go : (b : Bool) → all is_digit leads ≡ b → Refused 23 ≡ field_answer bytes
-      go true q = let z : Bad ≡ Number (decimal 0 leads) = led Bad e true q in let no : ◌≡◌ {A = ℕ} 0 1 = cc in absurd (omega arith)
-      go false q = sym (answer_split ∙ ap (λ (t : Bool). cond t (closed_by (decimal 0 leads) last) (Refused 23)) q)
+    pub read_bad : found ≡ None → Err PackedForm ≡ field_answer bytes
+    read_bad none = go (all is_digit leads) refl
+      where
+        go : (b : Bool) → all is_digit leads ≡ b → Err PackedForm ≡ field_answer bytes
+        go true q = let z : Some (decimal 0 leads) ≡ None = sym (led true q) ∙ none in cc
+        go false q = sym (answer_split ∙ ap (λ (t : Bool). cond t (closed_by (decimal 0 leads) last) (Err PackedForm)) q)
 
-  pub read_number : (n : ℕ) → Number n ≡ leading_digits bytes → (n ≡ decimal 0 leads) × (all is_digit leads ≡ true)
-  read_number n e = go (all is_digit leads) refl
-    where
-      go : (b : Bool) → all is_digit leads ≡ b → (n ≡ decimal 0 leads) × (all is_digit leads ≡ true)
-      go true q = let z : Number n ≡ Number (decimal 0 leads) = led (Number n) e true q in ((cc), q)
-      go false q = let z : Number n ≡ Bad = led (Number n) e false q in let no : ◌≡◌ {A = ℕ} 0 1 = cc in absurd (omega arith)
+    pub read_number : (n : ℕ) → found ≡ Some n → (n ≡ decimal 0 leads) × (all is_digit leads ≡ true)
+    read_number n some = go (all is_digit leads) refl
+      where
+        go : (b : Bool) → all is_digit leads ≡ b → (n ≡ decimal 0 leads) × (all is_digit leads ≡ true)
+        go true q = let z : Some n ≡ Some (decimal 0 leads) = sym some ∙ led true q in ((cc), q)
+        go false q = let z : Some n ≡ None = sym some ∙ led false q in cc
 
-  pub number_small : (n : ℕ) → Number n ≡ leading_digits bytes → n < 1000000000000
-  number_small n e =
-      let few : length leads ≤ 12
-      = omega (arith, length_nibbles (take (length bytes - 1) bytes), length-take-le (length bytes - 1) bytes (omega arith), (length_parts (length bytes) within).1) in
-      let most : 10 ^ length leads ≤ 10 ^ 12 = pow-le-pow_right {n = 10} (omega arith) {i = length leads} {j = 12} few in
-      omega (arith, decimal_below leads (read_number n e).1, (read_number n e).0)
+    pub number_small : (n : ℕ) → found ≡ Some n → n < 1000000000000
+    number_small n e =
+        let few : length leads ≤ 12
+        = omega (arith, length_nibbles front, length-take-le (length bytes - 1) bytes (omega arith), (length_parts (length bytes) within).1) in
+        let most : 10 ^ length leads ≤ 10 ^ 12 = pow-le-pow_right {n = 10} (omega arith) {i = length leads} {j = 12} few in
+        omega (arith, decimal_below leads (read_number n e).1, (read_number n e).0)
 
-  pub read_closed : (n : ℕ) → Number n ≡ leading_digits bytes → closed_by n last ≡ field_answer bytes
-  read_closed n e =
-      ap (λ (m : ℕ). closed_by m last) (read_number n e).0
-      ∙ sym (answer_split ∙ ap (λ (t : Bool). cond t (closed_by (decimal 0 leads) last) (Refused 23)) (read_number n e).1)
+    pub read_closed : (n : ℕ) → found ≡ Some n → closed_by n last ≡ field_answer bytes
+    read_closed n e =
+        ap (λ (m : ℕ). closed_by m last) (read_number n e).0
+        ∙ sym (answer_split ∙ ap (λ (t : Bool). cond t (closed_by (decimal 0 leads) last) (Err PackedForm)) (read_number n e).1)
 
 -- a good field by its tests, and what an answer tells
 module _ (bytes : List ℕ) where
@@ -119,13 +141,13 @@ module _ (bytes : List ℕ) where
       let inner = and_parts (length_within (length bytes)) (all is_digit (digits_of bytes)) outer.0 in
       (inner.0, inner.1, outer.1)
 
-  pub field_told : (v : ℤ) → field_answer bytes ≡ Value v → (field_good bytes ≡ true) × (field_value bytes ≡ v)
+  pub field_told : (v : ℤ) → field_answer bytes ≡ Ok v → (field_good bytes ≡ true) × (field_value bytes ≡ v)
   unfolding field_answer
   field_told v e = go (field_good bytes) refl e
     where
-      go : (t : Bool) → field_good bytes ≡ t → cond t (Value (field_value bytes)) (Refused 23) ≡ Value v → (field_good bytes ≡ true) × (field_value bytes ≡ v)
+      go : (t : Bool) → field_good bytes ≡ t → cond t (Ok (field_value bytes)) (Err PackedForm) ≡ Ok v → (field_good bytes ≡ true) × (field_value bytes ≡ v)
       go true p q = (p, cc)
-      go false p q = let z : ◌≡◌ {A = ℕ} 0 1 = cc in absurd (omega arith)
+      go false p q = cc
 
   -- a value that is read is within the digits of its field
   pub value_small : field_good bytes ≡ true → nat_abs (field_value bytes) < 10 ^ digits_in (length bytes)

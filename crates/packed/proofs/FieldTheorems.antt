@@ -17,9 +17,9 @@ use Rattle.base.proofs.Lists.{all_both, all_imply, all_at}
 use Rattle.base.proofs.Signed.{size_turned}
 use Rattle.packed.specs.Packed.{nibbles_of, bytes_of, length_within, digits_in, digits, sign_of, field_of, value_within, digits_of, sign_in, is_digit, is_sign, field_good, decimal, signed, field_value, field_answer, write_refusal, field_refusal, written_by, left_by, field_written, field_after}
 use Rattle.packed.specs.Statement.{last_byte, GoodField, PackedAs, RefusedWhere, WrittenAgain}
-use Rattle.packed.specs.declared.Written.TheVariants.{Bytes, Refused}
-use Rattle.packed.specs.declared.Field.TheVariants.{Value}
-use Rattle.packed.specs.declared.Field.TheVariants as field
+use Rattle.std.specs.Prelude.{Result, Ok, Err}
+use Rattle.refusals.specs.declared.Refusal.{Refusal}
+use Rattle.refusals.specs.declared.Refusal.TheVariants.{PackedForm}
 use Rattle.packed.proofs.NibbleLaws.{small, nibbles_of_bytes, length_digits_of, high_at, low_at, digits_split, sign_last, sign_changed}
 use Rattle.packed.proofs.DigitLaws.{length_digits, is_digit_lem, digit_most, digits_good, decimal_digits, digits_decimal, digit_at}
 use Rattle.packed.proofs.FormLaws.{length_in, length_parts}
@@ -31,12 +31,6 @@ surely a b = (λ x. b, λ y. a)
 neither : {A B : Type 0} → (A → ⊥) → (B → ⊥) → A ↔ B
 neither f g = (λ a. absurd (f a), λ b. absurd (g b))
 
-other : {a b : ℕ} → (a ≡ b → ⊥) → Refused a ≡ Refused b → ⊥
-other differ e = differ (cc)
-
-refused : {a b : ℕ} → Refused a ≡ Bytes b → ⊥
-refused e = let z : ◌≡◌ {A = ℕ} 0 1 = cc in omega arith
-
 -- Writing, of a form, of values and of room: each refusal exactly where its test is the first that fails.
 pub refused_where : {Form Values Room : Type 0} (form values room : Bool) → (form ≡ true) ↔ Form → (values ≡ true) ↔ Values → (room ≡ true) ↔ Room
     → (bytes : List ℕ) (count : ℕ) → (Form → length bytes ≡ count) → RefusedWhere (written_by (write_refusal form values room) bytes) count Form Values Room
@@ -44,56 +38,56 @@ refused_where {Form} {Values} {Room} false values room f v r bytes count long =
     let bad : Form → ⊥ = λ k. false≢true (f.1 k) in
     record {
       bad_form = surely refl bad;
-      too_large = neither (other (λ h. omega arith)) (λ k. bad k.0);
-      too_short = neither (other (λ h. omega arith)) (λ k. bad k.0);
-      accepted = neither refused (λ k. bad k.0);
+      too_large = neither (λ e. cc) (λ k. bad k.0);
+      too_short = neither (λ e. cc) (λ k. bad k.0);
+      accepted = neither (λ e. cc) (λ k. bad k.0);
       no_other = λ n e. inl (cc);
     }
 refused_where {Form} {Values} {Room} true false room f v r bytes count long =
     let bad : Values → ⊥ = λ k. false≢true (v.1 k) in
     record {
-      bad_form = neither (other (λ h. omega arith)) (λ k. k (f.0 refl));
+      bad_form = neither (λ e. cc) (λ k. k (f.0 refl));
       too_large = surely refl (f.0 refl, bad);
-      too_short = neither (other (λ h. omega arith)) (λ k. bad k.1);
-      accepted = neither refused (λ k. bad k.1);
+      too_short = neither (λ e. cc) (λ k. bad k.1);
+      accepted = neither (λ e. cc) (λ k. bad k.1);
       no_other = λ n e. inr (inl (cc));
     }
 refused_where {Form} {Values} {Room} true true false f v r bytes count long =
     let bad : Room → ⊥ = λ k. false≢true (r.1 k) in
     record {
-      bad_form = neither (other (λ h. omega arith)) (λ k. k (f.0 refl));
-      too_large = neither (other (λ h. omega arith)) (λ k. k.1 (v.0 refl));
+      bad_form = neither (λ e. cc) (λ k. k (f.0 refl));
+      too_large = neither (λ e. cc) (λ k. k.1 (v.0 refl));
       too_short = surely refl (f.0 refl, v.0 refl, bad);
-      accepted = neither refused (λ k. bad k.2);
+      accepted = neither (λ e. cc) (λ k. bad k.2);
       no_other = λ n e. inr (inr (cc));
     }
 refused_where {Form} {Values} {Room} true true true f v r bytes count long =
     record {
-      bad_form = neither (λ e. refused (sym e)) (λ k. k (f.0 refl));
-      too_large = neither (λ e. refused (sym e)) (λ k. k.1 (v.0 refl));
-      too_short = neither (λ e. refused (sym e)) (λ k. k.2 (r.0 refl));
-      accepted = surely (ap Bytes (long (f.0 refl))) (f.0 refl, v.0 refl, r.0 refl);
-      no_other = λ n e. absurd (refused (sym e));
+      bad_form = neither (λ e. cc) (λ k. k (f.0 refl));
+      too_large = neither (λ e. cc) (λ k. k.1 (v.0 refl));
+      too_short = neither (λ e. cc) (λ k. k.2 (r.0 refl));
+      accepted = surely (ap Ok (long (f.0 refl))) (f.0 refl, v.0 refl, r.0 refl);
+      no_other = λ n e. cc;
     }
 
 -- What was written stands in front, and what is lent behind stays.
 pub written_whole : (form values room : Bool) (bytes out : List ℕ) (n : ℕ) → (form ≡ true → room ≡ true → length bytes ≤ length out)
-    → written_by (write_refusal form values room) bytes ≡ Bytes n
+    → written_by (write_refusal form values room) bytes ≡ Ok n
     → (form ≡ true) × (values ≡ true)
     × (take n (left_by (write_refusal form values room) bytes out) ≡ bytes)
     × (drop n (left_by (write_refusal form values room) bytes out) ≡ drop n out)
 unfolding copied
-written_whole false values room bytes out n fits e = absurd (refused e)
-written_whole true false room bytes out n fits e = absurd (refused e)
-written_whole true true false bytes out n fits e = absurd (refused e)
+written_whole false values room bytes out n fits e = cc
+written_whole true false room bytes out n fits e = cc
+written_whole true true false bytes out n fits e = cc
 written_whole true true true bytes out n fits e =
     let count : length bytes ≡ n = cc in
     let placed : copied bytes out ≡ bytes ++ drop n out = ap₂ (λ (x : List ℕ) (k : ℕ). x ++ drop k out) (take_all (length out) bytes (fits refl refl)) count in
     (refl, refl, rw placed (take_at bytes (drop n out) n count), rw placed (drop_at bytes (drop n out) n count))
 
-pub refused_stays : (refusal : ℕ) (bytes out : List ℕ) (n : ℕ) → written_by refusal bytes ≡ Refused n → left_by refusal bytes out ≡ out
-refused_stays zero bytes out n e = absurd (refused (sym e))
-refused_stays (suc m) bytes out n e = refl
+pub refused_stays : (r : Result (Unit {0}) Refusal) (bytes out : List ℕ) (refusal : Refusal) → written_by r bytes ≡ Err refusal → left_by r bytes out ≡ out
+refused_stays (Ok good) bytes out refusal e = cc
+refused_stays (Err other) bytes out refusal e = refl
 
 -- the tests, in the request's words
 length_is : (bytes : ℕ) → (length_within bytes ≡ true) ↔ ((1 ≤ bytes) × (bytes ≤ 7))
@@ -154,7 +148,7 @@ module _ (bytes n sign : ℕ) (some : 1 ≤ bytes) (good : is_sign sign ≡ true
       rw (sign_packed, digits_packed, length_packed bytes n sign some)
       (both (both ((length_is bytes).1 (some, few)) (digits_good (digits_in bytes) n)) good)
 
-  read_packed : bytes ≤ 7 → n < 10 ^ digits_in bytes → field_answer (packed bytes n sign) ≡ Value (signed sign n)
+  read_packed : bytes ≤ 7 → n < 10 ^ digits_in bytes → field_answer (packed bytes n sign) ≡ Ok (signed sign n)
   unfolding field_answer field_value
   read_packed few h = rw (good_packed few, sign_packed, digits_packed, decimal_digits (digits_in bytes) n h)
 
@@ -169,11 +163,11 @@ unfolding sign_of
 signed_back (pos n) = refl
 signed_back (negsuc n) = refl
 
-pub field_read_back : (value : ℤ) (bytes : ℕ) → length_within bytes ≡ true → value_within bytes value ≡ true → field_answer (field_of bytes value) ≡ Value value
+pub field_read_back : (value : ℤ) (bytes : ℕ) → length_within bytes ≡ true → value_within bytes value ≡ true → field_answer (field_of bytes value) ≡ Ok value
 unfolding field_of
 field_read_back value bytes form within =
     let h = (length_is bytes).0 form in
-    read_packed bytes (nat_abs value) (sign_of value) h.0 (sign_good value) h.1 ((value_is value bytes).0 within) ∙ ap Value (signed_back value)
+    read_packed bytes (nat_abs value) (sign_of value) h.0 (sign_good value) h.1 ((value_is value bytes).0 within) ∙ ap Ok (signed_back value)
 
 -- 23 for a length of 0 or over 7, then 24 for a value over the field's digits, then 10 for too few lent bytes.
 pub field_numbers : (value : ℤ) (bytes room : ℕ)
@@ -184,7 +178,7 @@ field_numbers value bytes room =
     (field_of bytes value) bytes (λ h. length_field bytes value h.0)
 
 module _ (value : ℤ) (bytes n : ℕ) (out : List ℕ) where
-  whole : field_written value bytes (length out) ≡ Bytes n
+  whole : field_written value bytes (length out) ≡ Ok n
       → (length_within bytes ≡ true) × (value_within bytes value ≡ true) × (take n (field_after value bytes out) ≡ field_of bytes value) × (drop n (field_after value bytes out) ≡ drop n out)
   unfolding field_written field_after field_refusal
   whole e =
@@ -192,17 +186,17 @@ module _ (value : ℤ) (bytes n : ℕ) (out : List ℕ) where
       (λ form room. omega (arith, length_field bytes value ((length_is bytes).0 form).0, leb-true bytes (length out) room)) e
 
   -- What is written stands in front, and what is lent behind it stays.
-  pub field_behind : field_written value bytes (length out) ≡ Bytes n → (take n (field_after value bytes out) ≡ field_of bytes value) × (drop n (field_after value bytes out) ≡ drop n out)
+  pub field_behind : field_written value bytes (length out) ≡ Ok n → (take n (field_after value bytes out) ≡ field_of bytes value) × (drop n (field_after value bytes out) ≡ drop n out)
   field_behind e = ((whole e).2, (whole e).3)
 
   -- A refusal writes nothing.
-  pub field_stays : field_written value bytes (length out) ≡ Refused n → field_after value bytes out ≡ out
+  pub field_stays : (refusal : Refusal) → field_written value bytes (length out) ≡ Err refusal → field_after value bytes out ≡ out
   unfolding field_written field_after
-  field_stays e = refused_stays (field_refusal value bytes (length out)) (field_of bytes value) out n e
+  field_stays refusal e = refused_stays (field_refusal value bytes (length out)) (field_of bytes value) out refusal e
 
 -- Every value within its field's digits survives writing and reading.
 pub field_survives : (value : ℤ) (bytes : ℕ) (out : List ℕ) → 1 ≤ bytes → bytes ≤ 7 → nat_abs value < 10 ^ (2 * bytes - 1) → bytes ≤ length out
-    → (field_written value bytes (length out) ≡ Bytes bytes) × (field_answer (take bytes (field_after value bytes out)) ≡ Value value)
+    → (field_written value bytes (length out) ≡ Ok bytes) × (field_answer (take bytes (field_after value bytes out)) ≡ Ok value)
 field_survives value bytes out some few digits-fit room =
     let wrote = (field_numbers value bytes (length out)).accepted.1 ((some, few), digits-fit, room) in
     let stored = whole value bytes bytes out wrote in
@@ -254,16 +248,16 @@ module _ (bytes : List ℕ) where
           ((sign_is (last_byte bytes % 16)).1 good.sign))
 
   -- Read exactly if 1 to 7 bytes, all half bytes but the last digits, the last C, D or F.
-  pub field_exactly : ((v : ℤ) × (field_answer bytes ≡ Value v)) ↔ GoodField bytes
+  pub field_exactly : ((v : ℤ) × (field_answer bytes ≡ Ok v)) ↔ GoodField bytes
   unfolding field_answer
   field_exactly = (λ r. good_is.0 (field_told bytes r.0 r.1).0, λ good. (field_value bytes, rw (good_is.1 good)))
 
   -- 23 is the only refusal in reading.
-  pub field_only_23 : (n : ℕ) → field_answer bytes ≡ field.Refused n → n ≡ 23
+  pub field_only_23 : (refusal : Refusal) → field_answer bytes ≡ Err refusal → refusal ≡ PackedForm
   unfolding field_answer
-  field_only_23 n e = go (field_good bytes) e
+  field_only_23 refusal e = go (field_good bytes) e
     where
-      go : (t : Bool) → cond t (Value (field_value bytes)) (field.Refused 23) ≡ field.Refused n → n ≡ 23
+      go : (t : Bool) → cond t (Ok (field_value bytes)) (Err PackedForm) ≡ Err refusal → refusal ≡ PackedForm
       go true q = cc
       go false q = cc
 
@@ -284,7 +278,7 @@ minus_sign v zero e h = absurd (h e)
 minus_sign v (suc n) e h = rw e
 
 -- what is read, written again
-pub again_is : (bytes : List ℕ) (v : ℤ) → field_answer bytes ≡ Value v → (nat_abs v < 10 ^ digits_in (length bytes)) × GoodField bytes × WrittenAgain bytes (field_of (length bytes) v) v
+pub again_is : (bytes : List ℕ) (v : ℤ) → field_answer bytes ≡ Ok v → (nat_abs v < 10 ^ digits_in (length bytes)) × GoodField bytes × WrittenAgain bytes (field_of (length bytes) v) v
 unfolding field_value field_of sign_of
 again_is bytes v e = (below, good, record { same = same; turned = turned })
   where
@@ -329,8 +323,8 @@ again_is bytes v e = (below, good, record { same = same; turned = turned })
     turned (inr h) = plus-now (rw h.1)
 
 -- A field that was read and is written again: as long, and the same bytes but for the sign F and that of a minus zero.
-pub field_again : (bytes : List ℕ) (v : ℤ) → field_answer bytes ≡ Value v → (out : List ℕ) → length bytes ≤ length out
-    → (field_written v (length bytes) (length out) ≡ Bytes (length bytes)) × WrittenAgain bytes (take (length bytes) (field_after v (length bytes) out)) v
+pub field_again : (bytes : List ℕ) (v : ℤ) → field_answer bytes ≡ Ok v → (out : List ℕ) → length bytes ≤ length out
+    → (field_written v (length bytes) (length out) ≡ Ok (length bytes)) × WrittenAgain bytes (take (length bytes) (field_after v (length bytes) out)) v
 field_again bytes v e out room =
     let again = again_is bytes v e in
     let good = again.1 in
@@ -396,7 +390,7 @@ unfolding field_of sign_of
 zero_written bytes some = zeros bytes 12 some
 
 -- A minus zero is read as zero.
-pub minus_zero : (n : ℕ) → n ≤ 6 → field_answer (replicate n 0 ++ (13 ∷ [])) ≡ Value (pos 0)
+pub minus_zero : (n : ℕ) → n ≤ 6 → field_answer (replicate n 0 ++ (13 ∷ [])) ≡ Ok (pos 0)
 unfolding is_sign
 minus_zero n h =
     let one_less : suc n - 1 ≡ n = omega arith in

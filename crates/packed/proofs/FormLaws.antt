@@ -1,16 +1,19 @@
 -- When a field's length is within its limits, and how the refusals of writing come one after the other.
-use Prim.Native.Nat.{ℕ, zero, suc, ◌≤◌, ◌<◌}
+use Prim.Native.Nat.{ℕ, ◌≤◌, ◌<◌}
 use mathlib.Core.Bool.{Bool, true, false}
 use mathlib.Core.Path.{◌≡◌, refl, ap}
 use mathlib.Core.List.{List}
 use native.Mathlib.Omega.{arith}
 use borrow.Author.Tests.{le-leb, lt-leb, leb-true}
 use lib.Dec.{leb}
+use lib.IntN.{ℤ}
 use lib.ListN.{length}
 use Rattle.base.specs.Lists.{copied}
 use Rattle.base.proofs.Bools.{and_parts}
-use Rattle.packed.specs.Packed.{max_bytes, length_within, write_refusal, written_by, left_by}
-use Rattle.packed.specs.declared.Written.TheVariants.{Bytes, Refused}
+use Rattle.packed.specs.Packed.{max_bytes, length_within, value_within, field_refusal, map_within, values_within, record_length, record_refusal, write_refusal, written_by, left_by}
+use Rattle.std.specs.Prelude.{Result, Ok, Err}
+use Rattle.refusals.specs.declared.Refusal.{Refusal}
+use Rattle.refusals.specs.declared.Refusal.TheVariants.{PackedForm, PackedDigits, ShortMemory}
 
 pub length_in : (bytes : ℕ) → 1 ≤ bytes → bytes ≤ max_bytes → length_within bytes ≡ true
 unfolding length_within
@@ -32,31 +35,41 @@ length_over bytes h = rw (le-leb 1 bytes (omega arith), lt-leb bytes max_bytes h
 
 -- the refusals, by the first test that fails
 module _ (form values room : Bool) where
-  pub by_form : form ≡ false → 23 ≡ write_refusal form values room
+  pub by_form : form ≡ false → Err PackedForm ≡ write_refusal form values room
   by_form e = rw e
 
-  pub by_values : form ≡ true → values ≡ false → 24 ≡ write_refusal form values room
+  pub by_values : form ≡ true → values ≡ false → Err PackedDigits ≡ write_refusal form values room
   by_values e f = rw (e, f)
 
-  pub by_room : form ≡ true → values ≡ true → room ≡ false → 10 ≡ write_refusal form values room
+  pub by_room : form ≡ true → values ≡ true → room ≡ false → Err ShortMemory ≡ write_refusal form values room
   by_room e f g = rw (e, f, g)
 
-  pub by_none : form ≡ true → values ≡ true → room ≡ true → 0 ≡ write_refusal form values room
+  pub by_none : form ≡ true → values ≡ true → room ≡ true → Ok tt ≡ write_refusal form values room
   by_none e f g = rw (e, f, g)
 
-pub none_by : (form values room : Bool) → write_refusal form values room ≡ 0 → (form ≡ true) × (values ≡ true) × (room ≡ true)
+pub none_by : (form values room : Bool) → write_refusal form values room ≡ Ok tt → (form ≡ true) × (values ≡ true) × (room ≡ true)
 none_by true true true e = (refl, refl, refl)
-none_by true true false e = absurd (omega arith)
-none_by true false room e = absurd (omega arith)
-none_by false values room e = absurd (omega arith)
+none_by true true false e = cc
+none_by true false room e = cc
+none_by false values room e = cc
 
--- what a call that writes answers and leaves, by its refusal number
+-- what is not refused has a good length, and the room
+pub field_unrefused : (value : ℤ) (bytes room : ℕ) → field_refusal value bytes room ≡ Ok tt → (1 ≤ bytes) × (bytes ≤ max_bytes) × (bytes ≤ room)
+unfolding field_refusal
+field_unrefused value bytes room e =
+    let all = none_by (length_within bytes) (value_within bytes value) (leb bytes room) e in
+    ((length_parts bytes all.0).0, (length_parts bytes all.0).1, leb-true bytes room all.2)
+
+pub record_unrefused : (map : ℕ) (base premium open_lines : ℤ) (room : ℕ) → record_refusal map base premium open_lines room ≡ Ok tt → record_length map ≤ room
+unfolding record_refusal
+record_unrefused map base premium open_lines room e =
+    leb-true (record_length map) room (none_by (map_within map) (values_within map base premium open_lines) (leb (record_length map) room) e).2
+
+-- what is answered and left, where it is refused and where it is not
 module _ (bytes out : List ℕ) where
-  pub refused_so : (n refusal : ℕ) → n ≡ refusal → (n ≡ 0 → ⊥) → (Refused n ≡ written_by refusal bytes) × (out ≡ left_by refusal bytes out)
-  refused_so n zero e other = absurd (other e)
-  refused_so n (suc m) e other = (ap Refused e, refl)
+  pub refused_so : (refusal : Refusal) (r : Result (Unit {0}) Refusal) → r ≡ Err refusal → (Err refusal ≡ written_by r bytes) × (out ≡ left_by r bytes out)
+  refused_so refusal r e = rw e (refl, refl)
 
-  pub written_so : (n refusal count : ℕ) (after : List ℕ) → n ≡ refusal → n ≡ 0 → count ≡ length bytes → after ≡ copied bytes out
-      → (Bytes count ≡ written_by refusal bytes) × (after ≡ left_by refusal bytes out)
-  written_so n zero count after e z c a = (ap Bytes c, a)
-  written_so n (suc m) count after e z c a = absurd (omega arith)
+  pub written_so : (count : ℕ) (r : Result (Unit {0}) Refusal) (after : List ℕ) → r ≡ Ok tt → count ≡ length bytes → after ≡ copied bytes out
+      → (Ok count ≡ written_by r bytes) × (after ≡ left_by r bytes out)
+  written_so count r after e c a = rw e (ap Ok c, a)

@@ -12,7 +12,6 @@ use Rattle.base.specs.Lists.{all}
 use Rattle.base.proofs.Bools.{and_parts}
 use Rattle.packed.specs.Packed.{nibbles_of, bytes_of, digits_in, digits_of, sign_in}
 use Rattle.packed.specs.Statement.{last_byte}
-use Rattle.packed.specs.Inner.Reading.{leading_nibbles}
 
 pub nibbles_append : (xs ys : List ℕ) → nibbles_of (xs ++ ys) ≡ nibbles_of xs ++ nibbles_of ys
 unfolding nibbles_of
@@ -75,6 +74,10 @@ unfolding nibbles_of
 low_at [] i = refl
 low_at (x ∷ xs) zero = refl
 low_at (x ∷ xs) (suc i) = let e : 2 * suc i + 1 ≡ suc (suc (2 * i + 1)) = omega arith in rw e (low_at xs i)
+
+-- the nibbles of all bytes but the last
+abbrev pub leading_nibbles : List ℕ → List ℕ
+leading_nibbles bytes = nibbles_of (take (length bytes - 1) bytes)
 
 -- the last byte of a field, its digit and its sign
 module _ (xs : List ℕ) (h : 1 ≤ length xs) where

@@ -11,13 +11,12 @@ use lib.IntN.{ℤ, pos, nat_abs}
 use lib.ListN.{length, take, drop, length-append, length-drop}
 use lib.Seq.{take_at, drop_at, length-take-le}
 use Rattle.base.proofs.Bools.{both, and_parts, and_five}
-use Rattle.packed.specs.Packed.{length_within, field_of, value_within, field_good, field_answer, stands, map_within, standing, place_of, record_length, part, record_of, part_within, values_within, record_refusal, record_written, record_after, map_of, part_at, part_good, part_value, part_of, good_at, value_at, record_good, record_answer}
+use Rattle.packed.specs.Packed.{length_within, field_of, value_within, field_good, field_answer, stands, map_within, standing, place_of, record_length, part, record_of, part_within, values_within, record_refusal, record_written, record_after, map_of, part_at, part_good, part_value, part_of, good_at, value_at, record_good, quote_of, record_answer}
 use Rattle.packed.specs.Statement.{GoodField, RefusedWhere, WrittenAgain, base_bit, premium_bit, lines_bit, bytes_under, base_field, premium_field, lines_field, RecordLaid, GoodRecord, RecordRead, Within13, kept, RecordAgain}
-use Rattle.packed.specs.declared.Written.TheVariants.{Bytes}
-use Rattle.packed.specs.declared.Written.TheVariants as written
-use Rattle.packed.specs.declared.Field.TheVariants.{Value}
 use Rattle.packed.specs.declared.QuoteRecord.{QuoteRecord}
-use Rattle.packed.specs.declared.QuoteRecord.TheVariants.{Of, Refused}
+use Rattle.std.specs.Prelude.{Result, Ok, Err}
+use Rattle.refusals.specs.declared.Refusal.{Refusal}
+use Rattle.refusals.specs.declared.Refusal.TheVariants.{PackedForm}
 use Rattle.packed.proofs.FieldLaws.{length_field, field_told}
 use Rattle.packed.proofs.PartLaws.{length_part, length_record}
 use Rattle.packed.proofs.FieldTheorems.{refused_where, refused_stays, written_whole, value_is, field_read_back, good_is, again_is}
@@ -190,7 +189,7 @@ module _ (map : ℕ) (base premium open_lines : ℤ) where
       (ltb-true map 8, lt-ltb map 8) values_fit enough whole (bytes_under map) (λ h. long ∙ long_is map)
 
   read_back : map_within map ≡ true → values_within map base premium open_lines ≡ true
-      → record_answer whole ≡ Of map (kept (base_bit map) base) (kept (premium_bit map) premium) (kept (lines_bit map) open_lines)
+      → record_answer whole ≡ Ok (quote_of map (kept (base_bit map) base) (kept (premium_bit map) premium) (kept (lines_bit map) open_lines))
   unfolding record_answer record_good record_of
   read_back form values =
       let parts = values_parts values in
@@ -201,7 +200,7 @@ module _ (map : ℕ) (base premium open_lines : ℤ) where
       rw (good, b.1, p.1, o.1, base_kept map base, premium_kept map premium, lines_kept map open_lines)
 
   module _ (out : List ℕ) where
-    stored : (n : ℕ) → record_written map base premium open_lines (length out) ≡ Bytes n
+    stored : (n : ℕ) → record_written map base premium open_lines (length out) ≡ Ok n
         → (map_within map ≡ true) × (values_within map base premium open_lines ≡ true)
         × (take n (record_after map base premium open_lines out) ≡ whole)
         × (drop n (record_after map base premium open_lines out) ≡ drop n out)
@@ -211,20 +210,20 @@ module _ (map : ℕ) (base premium open_lines : ℤ) where
         (λ form room. omega (arith, long, leb-true (record_length map) (length out) room)) e
 
     -- What is written stands in front, and what is lent behind it stays.
-    pub record_behind : (n : ℕ) → record_written map base premium open_lines (length out) ≡ Bytes n
+    pub record_behind : (n : ℕ) → record_written map base premium open_lines (length out) ≡ Ok n
         → (take n (record_after map base premium open_lines out) ≡ whole) × (drop n (record_after map base premium open_lines out) ≡ drop n out)
     record_behind n e = ((stored n e).2, (stored n e).3)
 
     -- A refusal writes nothing.
-    pub record_stays : (n : ℕ) → record_written map base premium open_lines (length out) ≡ written.Refused n → record_after map base premium open_lines out ≡ out
+    pub record_stays : (refusal : Refusal) → record_written map base premium open_lines (length out) ≡ Err refusal → record_after map base premium open_lines out ≡ out
     unfolding record_written record_after
-    record_stays n e = refused_stays (record_refusal map base premium open_lines (length out)) whole out n e
+    record_stays refusal e = refused_stays (record_refusal map base premium open_lines (length out)) whole out refusal e
 
     -- Every value within its field's digits whose bit stands survives writing and reading, and so does the map; the others are read as 0.
     pub record_survives : map < 8 → Within13 map base premium open_lines → bytes_under map ≤ length out
-        → (record_written map base premium open_lines (length out) ≡ Bytes (bytes_under map))
+        → (record_written map base premium open_lines (length out) ≡ Ok (bytes_under map))
         × (record_answer (take (bytes_under map) (record_after map base premium open_lines out))
-        ≡ Of map (kept (base_bit map) base) (kept (premium_bit map) premium) (kept (lines_bit map) open_lines))
+        ≡ Ok (quote_of map (kept (base_bit map) base) (kept (premium_bit map) premium) (kept (lines_bit map) open_lines)))
     record_survives low within room =
         let wrote = (record_numbers (length out)).accepted.1 (low, within, room) in
         let left = stored (bytes_under map) wrote in
@@ -255,16 +254,18 @@ module _ (bytes : List ℕ) where
   abbrev Told : ℕ → ℤ → ℤ → ℤ → Type 0
   Told map b p o = (record_good bytes ≡ true) × (map_of bytes ≡ map) × (value_at 0 bytes ≡ b) × (value_at 1 bytes ≡ p) × (value_at 2 bytes ≡ o)
 
-  abbrev answered : QuoteRecord
-  answered = Of (map_of bytes) (value_at 0 bytes) (value_at 1 bytes) (value_at 2 bytes)
+  abbrev answered : Result QuoteRecord Refusal
+  answered = Ok (quote_of (map_of bytes) (value_at 0 bytes) (value_at 1 bytes) (value_at 2 bytes))
 
-  record_told : (map : ℕ) (b p o : ℤ) → record_answer bytes ≡ Of map b p o → Told map b p o
+  record_told : (map : ℕ) (b p o : ℤ) → record_answer bytes ≡ Ok (quote_of map b p o) → Told map b p o
   unfolding record_answer
   record_told map b p o e = go (record_good bytes) refl e
     where
-      go : (t : Bool) → record_good bytes ≡ t → cond t answered (Refused 23) ≡ Of map b p o → Told map b p o
-      go true good q = (good, cc, cc, cc, cc)
-      go false bad q = let z : ◌≡◌ {A = ℕ} 0 1 = cc in absurd (omega arith)
+      go : (t : Bool) → record_good bytes ≡ t → cond t answered (Err PackedForm) ≡ Ok (quote_of map b p o) → Told map b p o
+      go true good q =
+          let same : quote_of (map_of bytes) (value_at 0 bytes) (value_at 1 bytes) (value_at 2 bytes) ≡ quote_of map b p o = cc in
+          (good, ap (λ (q : QuoteRecord). q.map) same, ap (λ (q : QuoteRecord). q.base) same, ap (λ (q : QuoteRecord). q.premium) same, ap (λ (q : QuoteRecord). q.open_lines) same)
+      go false bad q = cc
 
   record_good_parts : record_good bytes ≡ true
       → (map_within (map_of bytes) ≡ true) × (eqb (length bytes) (record_length (map_of bytes)) ≡ true) × (good_at 0 bytes ≡ true) × (good_at 1 bytes ≡ true) × (good_at 2 bytes ≡ true)
@@ -306,7 +307,7 @@ module _ (bytes : List ℕ) where
           (base_good.1 good.good_base)) (premium_good.1 good.good_premium)) (lines_good.1 good.good_lines)
 
   -- Read exactly if no higher bit is set, the length is that of the bits that stand, and their fields are good.
-  pub record_exactly : ((map : ℕ) × (b : ℤ) × (p : ℤ) × (o : ℤ) × (record_answer bytes ≡ Of map b p o)) ↔ GoodRecord bytes
+  pub record_exactly : ((map : ℕ) × (b : ℤ) × (p : ℤ) × (o : ℤ) × (record_answer bytes ≡ Ok (quote_of map b p o))) ↔ GoodRecord bytes
   unfolding record_answer
   record_exactly = (
     λ r. record_good_is.0 (record_told r.0 r.1 r.2 r.3 r.4).0,
@@ -314,20 +315,20 @@ module _ (bytes : List ℕ) where
   )
 
   -- 23 is the only refusal in reading.
-  pub record_only_23 : (n : ℕ) → record_answer bytes ≡ Refused n → n ≡ 23
+  pub record_only_23 : (refusal : Refusal) → record_answer bytes ≡ Err refusal → refusal ≡ PackedForm
   unfolding record_answer
-  record_only_23 n e = go (record_good bytes) e
+  record_only_23 refusal e = go (record_good bytes) e
     where
-      go : (t : Bool) → cond t answered (Refused 23) ≡ Refused n → n ≡ 23
+      go : (t : Bool) → cond t answered (Err PackedForm) ≡ Err refusal → refusal ≡ PackedForm
       go true q = cc
       go false q = cc
 
   -- a value whose bit stands is that of its field, and another one is 0
-  value_read_lem : (bit : ℕ) {B : Type 0} {own : List ℕ} → (stands (map_of bytes) bit ≡ true) ↔ B → part_of bit bytes ≡ own → good_at bit bytes ≡ true → B → field_answer own ≡ Value (value_at bit bytes)
+  value_read_lem : (bit : ℕ) {B : Type 0} {own : List ℕ} → (stands (map_of bytes) bit ≡ true) ↔ B → part_of bit bytes ≡ own → good_at bit bytes ≡ true → B → field_answer own ≡ Ok (value_at bit bytes)
   unfolding part_good part_value field_answer
   value_read_lem bit b at good given = rw (← at) (go (stands (map_of bytes) bit) (b.1 given) good)
     where
-      go : (t : Bool) → t ≡ true → part_good t (part_of bit bytes) ≡ true → field_answer (part_of bit bytes) ≡ Value (part_value t (part_of bit bytes))
+      go : (t : Bool) → t ≡ true → part_good t (part_of bit bytes) ≡ true → field_answer (part_of bit bytes) ≡ Ok (part_value t (part_of bit bytes))
       go true e g = rw g
       go false e g = absurd (false≢true e)
 
@@ -351,7 +352,7 @@ module _ (bytes : List ℕ) where
       }
 
   -- Reading returns the map, and the values from their own fields; a value whose bit does not stand is read as 0.
-  pub record_values : (map : ℕ) (b p o : ℤ) → record_answer bytes ≡ Of map b p o → RecordRead bytes map b p o
+  pub record_values : (map : ℕ) (b p o : ℤ) → record_answer bytes ≡ Ok (quote_of map b p o) → RecordRead bytes map b p o
   record_values map b p o e =
       let told = record_told map b p o e in
       rw (← told.1, ← told.2, ← told.3, ← told.4) (read_so told.0)
@@ -360,12 +361,12 @@ module _ (bytes : List ℕ) where
 seven : (bytes : List ℕ) (place rest : ℕ) → length bytes ≡ place + 7 + rest → length (part_at place bytes) ≡ 7
 seven bytes place rest e = length-take-le 7 (drop place bytes) (rw (length-drop place bytes) (omega arith))
 
-own_again : (own : List ℕ) (v : ℤ) → length own ≡ 7 → field_answer own ≡ Value v → (nat_abs v < 10 ^ 13) × WrittenAgain own (field_of 7 v) v
+own_again : (own : List ℕ) (v : ℤ) → length own ≡ 7 → field_answer own ≡ Ok v → (nat_abs v < 10 ^ 13) × WrittenAgain own (field_of 7 v) v
 own_again own v long answer = let again = rw long at (again_is own v answer) in (again.0, again.2)
 
 -- A record that was read and is written again: as long, the same map, and its fields the same but for the sign F and that of a minus zero.
-pub record_again : (bytes : List ℕ) (map : ℕ) (b p o : ℤ) → record_answer bytes ≡ Of map b p o → (out : List ℕ) → length bytes ≤ length out
-    → (record_written map b p o (length out) ≡ Bytes (length bytes)) × RecordAgain bytes (take (length bytes) (record_after map b p o out)) b p o
+pub record_again : (bytes : List ℕ) (map : ℕ) (b p o : ℤ) → record_answer bytes ≡ Ok (quote_of map b p o) → (out : List ℕ) → length bytes ≤ length out
+    → (record_written map b p o (length out) ≡ Ok (length bytes)) × RecordAgain bytes (take (length bytes) (record_after map b p o out)) b p o
 record_again bytes map b p o e out room = (wrote, rw (record_behind map b p o out (length bytes) wrote).0 again)
   where
     good : GoodRecord bytes
@@ -393,11 +394,11 @@ record_again bytes map b p o e out room = (wrote, rw (record_behind map b p o ou
         let same = read.map_read in
         own_again (lines_field bytes) o (seven bytes (1 + 7 * (base_bit (map_of bytes) + premium_bit (map_of bytes))) 0 (omega (arith, size, ap base_bit same, ap premium_bit same))) (read.lines_read given)
 
-    wrote : record_written map b p o (length out) ≡ Bytes (length bytes)
+    wrote : record_written map b p o (length out) ≡ Ok (length bytes)
     wrote =
         (record_numbers map b p o (length out)).accepted.1
         (rw read.map_read good.no_higher_bit, (λ given. (base given).0, λ given. (premium given).0, λ given. (lines given).0), omega (arith, size, room))
-        ∙ ap Bytes (sym size)
+        ∙ ap Ok (sym size)
 
     again : RecordAgain bytes (record_of map b p o) b p o
     again =

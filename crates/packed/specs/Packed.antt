@@ -1,12 +1,9 @@
 -- Request K8, amounts from the policy host: packed decimal fields and the quote record, how they are written and how they are read.
-use Rattle.std.specs.Prelude.{ℕ, zero, suc, ◌+◌, ◌*◌, ◌-◌, ◌/◌, ◌%◌, ◌^◌, Bool, true, cond, ◌&&◌, ◌||◌, List, [], ◌∷◌, ◌++◌, leb, ltb, eqb, length, get_or, take, drop, ℤ, pos, negsuc, neg_ℤ, nat_abs}
+use Rattle.std.specs.Prelude.{ℕ, zero, suc, ◌+◌, ◌*◌, ◌-◌, ◌/◌, ◌%◌, ◌^◌, Bool, true, cond, ◌&&◌, ◌||◌, List, [], ◌∷◌, ◌++◌, leb, ltb, eqb, length, get_or, take, drop, ℤ, pos, negsuc, neg_ℤ, nat_abs, ⊤, Result, Ok, Err}
 use Rattle.base.specs.Lists.{all, copied}
-use Rattle.packed.specs.declared.Written.{Written}
-use Rattle.packed.specs.declared.Written.TheVariants as written
-use Rattle.packed.specs.declared.Field.{Field}
-use Rattle.packed.specs.declared.Field.TheVariants as field
 use Rattle.packed.specs.declared.QuoteRecord.{QuoteRecord}
-use Rattle.packed.specs.declared.QuoteRecord.TheVariants as quote
+use Rattle.refusals.specs.declared.Refusal.{Refusal}
+use Rattle.refusals.specs.declared.Refusal.TheVariants.{PackedForm, PackedDigits, ShortMemory}
 
 -- A byte is two nibbles (the request's half bytes), the high one first. One nibble left over makes no byte.
 unfoldable pub nibbles_of : List ℕ → List ℕ
@@ -80,9 +77,9 @@ signed sign n = cond (eqb sign minus) (neg_ℤ (pos n)) (pos n)
 unfoldable pub field_value : List ℕ → ℤ
 field_value bytes = signed (sign_in bytes) (decimal 0 (digits_of bytes))
 
--- 23 is the only refusal in reading
-unfoldable pub field_answer : List ℕ → Field
-field_answer bytes = cond (field_good bytes) (field.Value (field_value bytes)) (field.Refused 23)
+-- 23, a malformed field, is the only refusal in reading
+unfoldable pub field_answer : List ℕ → Result ℤ Refusal
+field_answer bytes = cond (field_good bytes) (Ok (field_value bytes)) (Err PackedForm)
 
 -- A quote record is one byte of bit map, then only the fields whose bit stands, 7 bytes each: bit 0 base, bit 1 premium, bit 2 open lines; higher bits are 0.
 unfoldable pub stands : ℕ → ℕ → Bool
@@ -116,31 +113,31 @@ unfoldable pub values_within : ℕ → ℤ → ℤ → ℤ → Bool
 values_within map base premium open_lines = part_within (stands map 0) base && part_within (stands map 1) premium && part_within (stands map 2) open_lines
 
 -- The refusals in writing, of a length or a map, of values and of room: 23, then 24, then 10.
-abbrev pub write_refusal : Bool → Bool → Bool → ℕ
-write_refusal form values room = cond form (cond values (cond room 0 10) 24) 23
+abbrev pub write_refusal : Bool → Bool → Bool → Result ⊤ Refusal
+write_refusal form values room = cond form (cond values (cond room (Ok tt) (Err ShortMemory)) (Err PackedDigits)) (Err PackedForm)
 
-unfoldable pub field_refusal : ℤ → ℕ → ℕ → ℕ
+unfoldable pub field_refusal : ℤ → ℕ → ℕ → Result ⊤ Refusal
 field_refusal value bytes room = write_refusal (length_within bytes) (value_within bytes value) (leb bytes room)
 
-unfoldable pub record_refusal : ℕ → ℤ → ℤ → ℤ → ℕ → ℕ
+unfoldable pub record_refusal : ℕ → ℤ → ℤ → ℤ → ℕ → Result ⊤ Refusal
 record_refusal map base premium open_lines room = write_refusal (map_within map) (values_within map base premium open_lines) (leb (record_length map) room)
 
 -- What writing answers, how many bytes are written, and what the lent bytes then are: a refusal leaves them, and what is lent behind stays.
-abbrev pub written_by : ℕ → List ℕ → Written
-written_by zero bytes = written.Bytes (length bytes)
-written_by (suc n) bytes = written.Refused (suc n)
+abbrev pub written_by : Result ⊤ Refusal → List ℕ → Result ℕ Refusal
+written_by (Ok good) bytes = Ok (length bytes)
+written_by (Err refusal) bytes = Err refusal
 
-abbrev pub left_by : ℕ → List ℕ → List ℕ → List ℕ
-left_by zero bytes out = copied bytes out
-left_by (suc n) bytes out = out
+abbrev pub left_by : Result ⊤ Refusal → List ℕ → List ℕ → List ℕ
+left_by (Ok good) bytes out = copied bytes out
+left_by (Err refusal) bytes out = out
 
-unfoldable pub field_written : ℤ → ℕ → ℕ → Written
+unfoldable pub field_written : ℤ → ℕ → ℕ → Result ℕ Refusal
 field_written value bytes room = written_by (field_refusal value bytes room) (field_of bytes value)
 
 unfoldable pub field_after : ℤ → ℕ → List ℕ → List ℕ
 field_after value bytes out = left_by (field_refusal value bytes (length out)) (field_of bytes value) out
 
-unfoldable pub record_written : ℕ → ℤ → ℤ → ℤ → ℕ → Written
+unfoldable pub record_written : ℕ → ℤ → ℤ → ℤ → ℕ → Result ℕ Refusal
 record_written map base premium open_lines room = written_by (record_refusal map base premium open_lines room) (record_of map base premium open_lines)
 
 unfoldable pub record_after : ℕ → ℤ → ℤ → ℤ → List ℕ → List ℕ
@@ -171,5 +168,8 @@ value_at bit bytes = part_value (stands (map_of bytes) bit) (part_of bit bytes)
 unfoldable pub record_good : List ℕ → Bool
 record_good bytes = map_within (map_of bytes) && eqb (length bytes) (record_length (map_of bytes)) && good_at 0 bytes && good_at 1 bytes && good_at 2 bytes
 
-unfoldable pub record_answer : List ℕ → QuoteRecord
-record_answer bytes = cond (record_good bytes) (quote.Of (map_of bytes) (value_at 0 bytes) (value_at 1 bytes) (value_at 2 bytes)) (quote.Refused 23)
+abbrev pub quote_of : ℕ → ℤ → ℤ → ℤ → QuoteRecord
+quote_of map base premium open_lines = record { map = map; base = base; premium = premium; open_lines = open_lines }
+
+unfoldable pub record_answer : List ℕ → Result QuoteRecord Refusal
+record_answer bytes = cond (record_good bytes) (Ok (quote_of (map_of bytes) (value_at 0 bytes) (value_at 1 bytes) (value_at 2 bytes))) (Err PackedForm)

@@ -1,9 +1,8 @@
 -- What the theorems of `packed` say, in the request's words: fields and records byte by byte, as they are written and as they are good, which refusal comes when, what is read, and what is written again of it.
-use Rattle.std.specs.Prelude.{ℕ, zero, suc, ◌+◌, ◌*◌, ◌-◌, ◌/◌, ◌%◌, ◌^◌, ◌≤◌, ◌<◌, List, ◌↔◌, ◌⊎◌, ◌≡◌, length, get_or, take, drop, set, ℤ, pos, nat_abs}
+use Rattle.std.specs.Prelude.{ℕ, zero, suc, ◌+◌, ◌*◌, ◌-◌, ◌/◌, ◌%◌, ◌^◌, ◌≤◌, ◌<◌, List, ◌↔◌, ◌⊎◌, ◌≡◌, length, get_or, take, drop, set, ℤ, pos, nat_abs, Result, Ok, Err}
 use Rattle.packed.specs.Packed.{field_of, field_answer, map_of}
-use Rattle.packed.specs.declared.Written.{Written}
-use Rattle.packed.specs.declared.Written.TheVariants.{Bytes, Refused}
-use Rattle.packed.specs.declared.Field.TheVariants.{Value}
+use Rattle.refusals.specs.declared.Refusal.{Refusal}
+use Rattle.refusals.specs.declared.Refusal.TheVariants.{PackedForm, PackedDigits, ShortMemory}
 
 -- Fields.
 abbrev pub last_byte : List ℕ → ℕ
@@ -25,13 +24,13 @@ pub record PackedAs (count : ℕ) (value : ℤ) (bytes : List ℕ) : Type 0 wher
   pub plus : value ≡ pos (nat_abs value) → last_byte bytes % 16 ≡ 12
   pub minus : (value ≡ pos (nat_abs value) → ⊥) → last_byte bytes % 16 ≡ 13
 
--- In writing, of a form, of values and of room: each refusal number exactly where it is due, and so many bytes written exactly where none is.
-pub record RefusedWhere (answer : Written) (count : ℕ) (Form Values Room : Type 0) : Type 0 where
-  pub bad_form : (answer ≡ Refused 23) ↔ (Form → ⊥)
-  pub too_large : (answer ≡ Refused 24) ↔ (Form × (Values → ⊥))
-  pub too_short : (answer ≡ Refused 10) ↔ (Form × Values × (Room → ⊥))
-  pub accepted : (answer ≡ Bytes count) ↔ (Form × Values × Room)
-  pub no_other : (n : ℕ) → answer ≡ Refused n → (n ≡ 23) ⊎ (n ≡ 24) ⊎ (n ≡ 10)
+-- In writing, of a form, of values and of room: each refusal (23, 24, 10) exactly where it is due, and so many bytes written exactly where none is.
+pub record RefusedWhere (answer : Result ℕ Refusal) (count : ℕ) (Form Values Room : Type 0) : Type 0 where
+  pub bad_form : (answer ≡ Err PackedForm) ↔ (Form → ⊥)
+  pub too_large : (answer ≡ Err PackedDigits) ↔ (Form × (Values → ⊥))
+  pub too_short : (answer ≡ Err ShortMemory) ↔ (Form × Values × (Room → ⊥))
+  pub accepted : (answer ≡ Ok count) ↔ (Form × Values × Room)
+  pub no_other : (refusal : Refusal) → answer ≡ Err refusal → (refusal ≡ PackedForm) ⊎ (refusal ≡ PackedDigits) ⊎ (refusal ≡ ShortMemory)
 
 -- A field that was read and is written again: the same bytes, but that the sign F, and the D of a minus zero, is C.
 pub record WrittenAgain (bytes again : List ℕ) (value : ℤ) : Type 0 where
@@ -81,11 +80,11 @@ pub record GoodRecord (bytes : List ℕ) : Type 0 where
 -- What is read of a record: its map, each value whose bit stands from its own field, and 0 for the others.
 pub record RecordRead (bytes : List ℕ) (map : ℕ) (base premium open_lines : ℤ) : Type 0 where
   pub map_read : map ≡ map_of bytes
-  pub base_read : base_bit map ≡ 1 → field_answer (base_field bytes) ≡ Value base
+  pub base_read : base_bit map ≡ 1 → field_answer (base_field bytes) ≡ Ok base
   pub base_absent : base_bit map ≡ 0 → base ≡ pos 0
-  pub premium_read : premium_bit map ≡ 1 → field_answer (premium_field bytes) ≡ Value premium
+  pub premium_read : premium_bit map ≡ 1 → field_answer (premium_field bytes) ≡ Ok premium
   pub premium_absent : premium_bit map ≡ 0 → premium ≡ pos 0
-  pub lines_read : lines_bit map ≡ 1 → field_answer (lines_field bytes) ≡ Value open_lines
+  pub lines_read : lines_bit map ≡ 1 → field_answer (lines_field bytes) ≡ Ok open_lines
   pub lines_absent : lines_bit map ≡ 0 → open_lines ≡ pos 0
 
 -- the values whose bit stands have at most 13 digits

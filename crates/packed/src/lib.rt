@@ -7,103 +7,75 @@ mod records;
 ghost use Rattle.std.specs.Prelude.{◌≡◌, length};
 ghost use Rattle.packed.specs.Packed.{field_written, field_after, field_answer, record_written, record_after, record_answer};
 
-use fields::{closed, field_refusal, leading, put_field};
-use records::{put_part, record_length, record_refusal, stands, values_of};
+use fields::{closed, field_refusal, length_within, number_in, put_field};
+use records::{
+    BASE, MAX_MAP, OPEN_LINES, PREMIUM, put_part, record_length, record_refusal, stands, values_of,
+};
+use refusals::Refusal;
 
 // The most bytes of a field (`max_bytes`); a field of a record has all of them.
 const MAX_BYTES: usize = 7;
 
-// What writing answers: how many bytes are written, or the refusal number.
-#[derive(Clone, Copy)]
-pub enum Written {
-    Bytes(u32),
-    Refused(u32),
+/// A quote record: its bit map and its values, of which those count whose bit stands.
+#[derive(Clone, Copy, Debug, PartialEq, Eq)]
+pub struct QuoteRecord {
+    /// Which values stand in the record.
+    pub map: u8,
+    /// The base, bit 0 of the map.
+    pub base: i64,
+    /// The premium, bit 1 of the map.
+    pub premium: i64,
+    /// The number of open lines, bit 2 of the map.
+    pub open_lines: i64,
 }
 
-// What reading a field answers: its value, or the refusal number.
-#[derive(Clone, Copy)]
-pub enum Field {
-    Value(i64),
-    Refused(u32),
-}
-
-// What reading a quote record answers: its map and its values, 0 where the bit does not stand, or the refusal number.
-#[derive(Clone, Copy)]
-pub enum QuoteRecord {
-    Of {
-        map: u8,
-        base: i64,
-        premium: i64,
-        open_lines: i64,
-    },
-    Refused(u32),
-}
-
-// The number that digits write, or that a nibble among them is no digit.
-#[derive(Clone, Copy)]
-enum Digits {
-    Number(u64),
-    Bad,
-}
-
-// Writes a value as a field of so many bytes.
-pub fn write_field(value: i64, bytes: usize, out: &mut [u8]) -> Written
+/// Writes a value as a field of so many bytes, and returns how many.
+pub fn write_field(value: i64, bytes: usize, out: &mut [u8]) -> Result<u32, Refusal>
     ensures value { result ≡ field_written value bytes (length out.old) }
     ensures out_after { out.new ≡ field_after value bytes out.old }
 {
-    let refused = field_refusal(value, bytes, out.len());
-    if refused != 0 {
-        return Written::Refused(refused);
-    }
+    field_refusal(value, bytes, out.len())?;
     put_field(value, &mut out[..bytes]);
-    Written::Bytes(bytes as u32)
+    Ok(bytes as u32)
 }
 
-// Reads a field: all bytes lent.
-pub fn read_field(bytes: &[u8]) -> Field
+/// Reads a field: all bytes lent.
+#[tactic(auto, using(crate::proofs::FormLaws::length_parts))]
+pub fn read_field(bytes: &[u8]) -> Result<i64, Refusal>
     ensures { result ≡ field_answer bytes.now }
 {
-    if bytes.len() == 0 {
-        return Field::Refused(23);
+    if !length_within(bytes.len()) {
+        return Err(Refusal::PackedForm);
     }
-    if bytes.len() > MAX_BYTES {
-        return Field::Refused(23);
-    }
-    match leading(bytes) {
-        Digits::Number(number) => closed(number, bytes[bytes.len() - 1]),
-        Digits::Bad => Field::Refused(23),
-    }
+    let last = bytes.len() - 1;
+    let number = number_in(&bytes[..last]).ok_or(Refusal::PackedForm)?;
+    closed(number, bytes[last])
 }
 
-// Writes a quote record: the map, and the values whose bit stands in it.
-pub fn write_quote(map: u8, base: i64, premium: i64, open_lines: i64, out: &mut [u8]) -> Written
-    ensures value { result ≡ record_written map base premium open_lines (length out.old) }
-    ensures out_after { out.new ≡ record_after map base premium open_lines out.old }
+/// Writes a quote record, the map and the values whose bit stands in it, and returns how many bytes it has.
+pub fn write_quote(quote: QuoteRecord, out: &mut [u8]) -> Result<u32, Refusal>
+    ensures value { result ≡ record_written quote.map quote.base quote.premium quote.open_lines (length out.old) }
+    ensures out_after { out.new ≡ record_after quote.map quote.base quote.premium quote.open_lines out.old }
 {
-    let refused = record_refusal(map, base, premium, open_lines, out.len());
-    if refused != 0 {
-        return Written::Refused(refused);
-    }
+    record_refusal(quote, out.len())?;
+    let map = quote.map;
     out[0] = map;
-    let second = put_part(stands(map, 1), base, 1, out);
-    let third = put_part(stands(map, 2), premium, second, out);
-    let end = put_part(stands(map, 4), open_lines, third, out);
-    Written::Bytes(end as u32)
+    let second = put_part(stands(map, BASE), quote.base, 1, out);
+    let third = put_part(stands(map, PREMIUM), quote.premium, second, out);
+    let end = put_part(stands(map, OPEN_LINES), quote.open_lines, third, out);
+    Ok(end as u32)
 }
 
-// Reads a quote record: all bytes lent.
-pub fn read_quote(bytes: &[u8]) -> QuoteRecord
+/// Reads a quote record: all bytes lent. A value whose bit does not stand is 0.
+pub fn read_quote(bytes: &[u8]) -> Result<QuoteRecord, Refusal>
     ensures { result ≡ record_answer bytes.now }
 {
     if bytes.len() == 0 {
-        return QuoteRecord::Refused(23);
+        return Err(Refusal::PackedForm);
     }
     let map = bytes[0];
-    if map > 7 {
-        return QuoteRecord::Refused(23);
-    }
-    if bytes.len() != record_length(map) {
-        return QuoteRecord::Refused(23);
+    if map > MAX_MAP || bytes.len() != record_length(map) {
+        return Err(Refusal::PackedForm);
     }
     values_of(map, bytes)
 }

@@ -1,68 +1,81 @@
 // Quote records: the bits of a map, the refusals of writing a record, and its parts, each written and read at its place.
-ghost use Rattle.std.specs.Prelude.{◌≡◌, true, cond, ◌++◌, ◌+◌, ◌*◌, ◌/◌, ◌%◌, ◌≤◌, ◌<◌, eqb, length, take, drop};
-ghost use Rattle.packed.specs.Packed.{max_bytes, record_length, part, part_within, record_refusal, part_at, map_of, record_answer, map_within};
+ghost use Rattle.std.specs.Prelude.{◌≡◌, true, cond, ◌++◌, ◌+◌, ◌*◌, ◌≤◌, ◌<◌, length, take, drop};
+ghost use Rattle.packed.specs.Packed.{max_bytes, stands, record_length, part, part_within, values_within, record_refusal, part_at, map_of, record_answer, map_within};
 ghost use Rattle.packed.specs.Inner.Reading.{part_answer};
 
 use crate::fields::{put_field, value_within};
-use crate::{Field, MAX_BYTES, QuoteRecord, read_field};
+use crate::{MAX_BYTES, QuoteRecord, read_field};
+use refusals::Refusal;
 
-// A bit stands, by its weight: 1, 2 or 4.
-pub(crate) fn stands(map: u8, weight: u8) -> bool
-    requires { 0 < weight }
-    ensures { result ≡ eqb (map / weight % 2) 1 }
+// The bits of a map, and the largest map: higher bits are 0.
+pub(crate) const BASE: u32 = 0;
+
+pub(crate) const PREMIUM: u32 = 1;
+
+pub(crate) const OPEN_LINES: u32 = 2;
+
+pub(crate) const MAX_MAP: u8 = 7;
+
+// A bit of a map stands.
+#[tactic(auto, unfolding(crate::specs::Packed::stands))]
+pub(crate) fn stands(map: u8, bit: u32) -> bool
+    requires { bit < 8 }
+    ensures { result ≡ stands map bit }
 {
-    map / weight % 2 == 1
+    map >> bit & 1 == 1
 }
 
 // How many bytes a part has.
 fn span(present: bool) -> usize
     ensures { result ≡ max_bytes * cond present 1 0 }
 {
-    if present {
-        return MAX_BYTES;
-    }
-    0
+    if present { MAX_BYTES } else { 0 }
 }
 
+#[tactic(auto, unfolding(crate::specs::Packed::standing))]
 pub(crate) fn record_length(map: u8) -> usize
     ensures { result ≡ record_length map }
 {
-    1 + span(stands(map, 1)) + span(stands(map, 2)) + span(stands(map, 4))
+    1 + span(stands(map, BASE)) + span(stands(map, PREMIUM)) + span(stands(map, OPEN_LINES))
 }
 
 // A value is within its digits, or not looked at.
+#[tactic(auto, unfolding(crate::specs::Packed::length_within, crate::specs::Packed::part_within))]
 fn part_within(present: bool, value: i64) -> bool
     ensures { result ≡ part_within present value }
 {
-    if !present {
-        return true;
-    }
-    value_within(MAX_BYTES, value)
+    !present || value_within(MAX_BYTES, value)
 }
 
-// The refusal number of writing a record, or 0.
-pub(crate) fn record_refusal(map: u8, base: i64, premium: i64, open_lines: i64, room: usize) -> u32
-    ensures { result ≡ record_refusal map base premium open_lines room }
+// The values whose bit stands are within their digits.
+#[tactic(auto, unfolding(crate::specs::Packed::values_within))]
+fn values_within(quote: QuoteRecord) -> bool
+    ensures { result ≡ values_within quote.map quote.base quote.premium quote.open_lines }
 {
-    if map > 7 {
-        return 23;
-    }
-    if !part_within(stands(map, 1), base) {
-        return 24;
-    }
-    if !part_within(stands(map, 2), premium) {
-        return 24;
-    }
-    if !part_within(stands(map, 4), open_lines) {
-        return 24;
-    }
-    if room < record_length(map) {
-        return 10;
-    }
-    0
+    let map = quote.map;
+    part_within(stands(map, BASE), quote.base)
+        && part_within(stands(map, PREMIUM), quote.premium)
+        && part_within(stands(map, OPEN_LINES), quote.open_lines)
 }
 
-// Writes a part at a place, where it is present, and answers the place behind it.
+// Why a record is not written, if it is not.
+#[tactic(auto, unfolding(crate::specs::Packed::map_within, crate::specs::Packed::record_refusal))]
+pub(crate) fn record_refusal(quote: QuoteRecord, room: usize) -> Result<(), Refusal>
+    ensures { result ≡ record_refusal quote.map quote.base quote.premium quote.open_lines room }
+{
+    if quote.map > MAX_MAP {
+        return Err(Refusal::PackedForm);
+    }
+    if !values_within(quote) {
+        return Err(Refusal::PackedDigits);
+    }
+    if room < record_length(quote.map) {
+        return Err(Refusal::ShortMemory);
+    }
+    Ok(())
+}
+
+// Writes a part at a place, where it is present, and returns the place behind it.
 pub(crate) fn put_part(present: bool, value: i64, at: usize, out: &mut [u8]) -> usize
     requires { at + length (part present value) ≤ length out.old }
     ensures value { result ≡ at + length (part present value) }
@@ -77,39 +90,33 @@ pub(crate) fn put_part(present: bool, value: i64, at: usize, out: &mut [u8]) -> 
 }
 
 // Reads a part at a place, where it is present; else it is 0.
-fn read_part(present: bool, at: usize, bytes: &[u8]) -> Field
+fn read_part(present: bool, at: usize, bytes: &[u8]) -> Result<i64, Refusal>
     requires { at + max_bytes * cond present 1 0 ≤ length bytes.now }
     ensures { result ≡ part_answer present (part_at at bytes.now) }
 {
     if !present {
-        return Field::Value(0);
+        return Ok(0);
     }
-    let end = at + MAX_BYTES;
-    read_field(&bytes[at..end])
+    read_field(&bytes[at..at + MAX_BYTES])
 }
 
 // The answer for a record whose map has no higher bit and whose length fits it.
-pub(crate) fn values_of(map: u8, bytes: &[u8]) -> QuoteRecord
+#[tactic(auto, using(crate::proofs::PartLaws::place_first, crate::proofs::PartLaws::place_second, crate::proofs::PartLaws::place_third, crate::proofs::PartLaws::place_end))]
+pub(crate) fn values_of(map: u8, bytes: &[u8]) -> Result<QuoteRecord, Refusal>
     requires { (map ≡ map_of bytes.now) × (map_within map ≡ true) × (length bytes.now ≡ record_length map) }
     ensures { result ≡ record_answer bytes.now }
 {
-    let with_base = stands(map, 1);
-    let with_premium = stands(map, 2);
-    let Field::Value(base) = read_part(with_base, 1, bytes) else {
-        return QuoteRecord::Refused(23);
-    };
+    let with_base = stands(map, BASE);
+    let with_premium = stands(map, PREMIUM);
+    let base = read_part(with_base, 1, bytes)?;
     let second = 1 + span(with_base);
-    let Field::Value(premium) = read_part(with_premium, second, bytes) else {
-        return QuoteRecord::Refused(23);
-    };
+    let premium = read_part(with_premium, second, bytes)?;
     let third = second + span(with_premium);
-    let Field::Value(open_lines) = read_part(stands(map, 4), third, bytes) else {
-        return QuoteRecord::Refused(23);
-    };
-    QuoteRecord::Of {
+    let open_lines = read_part(stands(map, OPEN_LINES), third, bytes)?;
+    Ok(QuoteRecord {
         map,
         base,
         premium,
         open_lines,
-    }
+    })
 }

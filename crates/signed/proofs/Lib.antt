@@ -1,3 +1,2 @@
 -- The laws of `signed`.
 pub mod Sizes
-pub mod Operations

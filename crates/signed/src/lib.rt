@@ -5,21 +5,18 @@ ghost use Rattle.std.specs.Prelude.{◌≡◌, cond, ◌<◌, pos, neg_ℤ, nat_
 ghost use Rattle.std.specs.Int.{w64};
 ghost use Rattle.std.proofs.Common.{SFits};
 
+// A number in more bits.
 pub fn widened(x: i32) -> i64
     ensures { result ≡ x }
 {
-    x as i64
+    i64::from(x)
 }
 
 // The size of a number, the least one too: that is never negated.
 pub fn size_of(x: i64) -> u64
     ensures { result ≡ nat_abs x }
 {
-    if x < 0 {
-        let y = x + 1;
-        return (0 - y) as u64 + 1;
-    }
-    x as u64
+    x.unsigned_abs()
 }
 
 // The number of a size, below zero or not.
@@ -28,10 +25,7 @@ pub fn with_sign(size: u64, minus: bool) -> i64
     ensures { result ≡ cond minus (neg_ℤ (pos size)) (pos size) }
 {
     let x = size as i64;
-    if minus {
-        return 0 - x;
-    }
-    x
+    if minus { 0 - x } else { x }
 }
 
 // A product and a sum, where they fit.

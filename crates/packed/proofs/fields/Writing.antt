@@ -1,29 +1,18 @@
 -- A field as it is written: its limits and its sign, and its bytes from the last to the first.
-use Prim.Native.Nat.{ℕ, suc, ◌+◌, ◌*◌, ◌-◌, ◌/◌, ◌%◌, ◌^◌, ◌≤◌, ◌<◌}
+use Prim.Native.Nat.{ℕ, suc, ◌+◌, ◌*◌, ◌-◌, ◌/◌, ◌%◌, ◌≤◌, ◌<◌}
 use mathlib.Core.Bool.{true, false}
 use mathlib.Core.Path.{◌≡◌, refl, sym, ap, ap₂, subst, ◌∙◌}
 use mathlib.Core.List.{List, [], ◌∷◌, ◌++◌, append_assoc}
 use native.Mathlib.Omega.{arith}
-use borrow.Author.Tests.{ltb-true, eqb-true}
-use lib.Dec.{T, eqb}
+use borrow.Author.Tests.{ltb-true}
+use lib.Dec.{T}
 use lib.IntN.{ℤ, pos, negsuc, nat_abs}
-use lib.ListN.{length, get_or, drop, set, length-set}
+use lib.ListN.{length, drop, set, length-set}
 use lib.Seq.{drop-cons, drop-set-lt, get_or-set_same, drop-length}
 use lib.Signed.{lt_z}
-use Rattle.base.specs.Lists.{up_to}
-use Rattle.base.proofs.ForAll.{upto_at}
 use Rattle.packed.specs.Packed.{digits_in, digits, bytes_of, sign_of, field_of}
 use Rattle.packed.proofs.NibbleLaws.{bytes_append}
 use Rattle.packed.proofs.DigitLaws.{length_digits}
-
-abbrev pub limits : List ℕ
-limits = 10 ∷ 1000 ∷ 100000 ∷ 10000000 ∷ 1000000000 ∷ 100000000000 ∷ 10000000000000 ∷ []
-
-pub limit_at : (bytes : ℕ) → 1 ≤ bytes → bytes ≤ 7 → get_or limits (bytes - 1) 0 ≡ 10 ^ digits_in bytes
-unfolding up_to
-limit_at bytes h k =
-    let down : bytes - 1 + 1 ≡ bytes = omega arith in
-    eqb-true _ _ (upto_at 7 (λ (i : ℕ). eqb (get_or limits i 0) (10 ^ digits_in (i + 1))) refl (bytes - 1) (omega arith)) ∙ ap (λ (n : ℕ). 10 ^ digits_in n) down
 
 pub sign_minus : (x : ℤ) → lt_z x (pos 0) ≡ true → 13 ≡ sign_of x
 unfolding sign_of

@@ -1,61 +1,36 @@
-use Prim.Native.Nat.{ℕ, ◌≤◌}
-use mathlib.Core.Path.{◌≡◌, sym, ap, ◌∙◌}
-use native.Mathlib.Omega.{arith}
-use borrow.Author.Tests.{leb-true}
-use lib.Dec.{leb}
-use lib.IntN.{ℤ}
-use lib.ListN.{length}
+use Rattle.std.proofs.Common.{arith}
+use Rattle.std.proofs.lemmas.Result.{err_from_is_err_and}
 use lib.Seq.{length-take-le}
 use mir.Syntax.{w64}
 use mir.ValLaws.{to_z-of_z}
-use Rattle.packed.specs.Packed.{max_bytes, length_within, value_within, field_of, field_refusal, field_written, field_after}
-use Rattle.packed.proofs.FormLaws.{length_parts, none_by, refused_so, written_so}
-use Rattle.packed.proofs.FieldLaws.{length_field, field_front}
+use Rattle.packed.proofs.FieldLaws.{field_refused, field_fits, field_done}
 use Rattle.packed.proofs.write_field.Goals as goal
 
-pub returns-then-refused-ne0 : goal.returns-then-refused-ne0
-unfolding field_written field_after
-returns-then-refused-ne0 c =
-    let told : c.field_refusal-refused.result ≡ field_refusal c.args.value c.args.bytes (length c.args.out.now) = c.field_refusal-refused.ensures ∙ ap (λ (v : ℤ). field_refusal v c.args.bytes (length c.args.out.now)) (to_z-of_z w64 c.args.value c.ranges.value) in
-    let said = refused_so (field_of c.args.bytes c.args.value) c.args.out.now _ _ told c.if-refused-ne0.true in
-    record { value = said.0; out_after = said.1 }
-
--- what is not refused has a good length, and the room
-unrefused : (value : ℤ) (bytes room : ℕ) → field_refusal value bytes room ≡ 0 → (1 ≤ bytes) × (bytes ≤ max_bytes) × (bytes ≤ room)
-unfolding field_refusal
-unrefused value bytes room e =
-    let all = none_by (length_within bytes) (value_within bytes value) (leb bytes room) e in
-    ((length_parts bytes all.0).0, (length_parts bytes all.0).1, leb-true bytes room all.2)
+pub returns-in_err-field_refusal : goal.returns-in_err-field_refusal
+returns-in_err-field_refusal c =
+    let p = err_from_is_err_and c.from_residual.result c.from_residual.ensures.1 in
+    let said = field_refused c.args.value _ (to_z-of_z w64 c.args.value c.ranges.value) c.args.bytes c.args.out.now _ c.field_refusal.ensures _ c.in_err-field_refusal.was in
+    record { value = rw (p.1, p.2) said.0; out_after = said.1 }
 
 pub slice_bounds-put_field-end : goal.slice_bounds-put_field-end
-slice_bounds-put_field-end c =
-    let told : c.field_refusal-refused.result ≡ field_refusal c.args.value c.args.bytes (length c.args.out.now) = c.field_refusal-refused.ensures ∙ ap (λ (v : ℤ). field_refusal v c.args.bytes (length c.args.out.now)) (to_z-of_z w64 c.args.value c.ranges.value) in
-    let fits : (1 ≤ c.args.bytes) × (c.args.bytes ≤ max_bytes) × (c.args.bytes ≤ length c.args.out.now) = unrefused c.args.value c.args.bytes (length c.args.out.now) (sym told ∙ c.if-refused-ne0.false) in
-    fits.2
+slice_bounds-put_field-end c = (field_fits c.args.value _ (to_z-of_z w64 c.args.value c.ranges.value) c.args.bytes c.args.out.now _ c.field_refusal.ensures c.in_ok-field_refusal.was).2
 
 pub slice_bounds-put_field-end-2 : goal.slice_bounds-put_field-end-2
 slice_bounds-put_field-end-2 c =
-    let told : c.field_refusal-refused.result ≡ field_refusal c.args.value c.args.bytes (length c.args.out.now) = c.field_refusal-refused.ensures ∙ ap (λ (v : ℤ). field_refusal v c.args.bytes (length c.args.out.now)) (to_z-of_z w64 c.args.value c.ranges.value) in
-    let fits : (1 ≤ c.args.bytes) × (c.args.bytes ≤ max_bytes) × (c.args.bytes ≤ length c.args.out.now) = unrefused c.args.value c.args.bytes (length c.args.out.now) (sym told ∙ c.if-refused-ne0.false) in
-    sym (length-take-le _ c.args.out.now fits.2)
+    let fits = field_fits c.args.value _ (to_z-of_z w64 c.args.value c.ranges.value) c.args.bytes c.args.out.now _ c.field_refusal.ensures c.in_ok-field_refusal.was in
+    omega (arith, length-take-le c.args.bytes c.args.out.now fits.2)
 
 pub put_field-requires : goal.put_field-requires
 put_field-requires c =
-    let told : c.field_refusal-refused.result ≡ field_refusal c.args.value c.args.bytes (length c.args.out.now) = c.field_refusal-refused.ensures ∙ ap (λ (v : ℤ). field_refusal v c.args.bytes (length c.args.out.now)) (to_z-of_z w64 c.args.value c.ranges.value) in
-    let fits : (1 ≤ c.args.bytes) × (c.args.bytes ≤ max_bytes) × (c.args.bytes ≤ length c.args.out.now) = unrefused c.args.value c.args.bytes (length c.args.out.now) (sym told ∙ c.if-refused-ne0.false) in
-    omega (arith, length-take-le c.args.bytes c.args.out.now fits.2, fits.0)
+    let fits = field_fits c.args.value _ (to_z-of_z w64 c.args.value c.ranges.value) c.args.bytes c.args.out.now _ c.field_refusal.ensures c.in_ok-field_refusal.was in
+    omega (arith, fits.0, length-take-le c.args.bytes c.args.out.now fits.2)
 
 pub overflow_cast-result : goal.overflow_cast-result
 overflow_cast-result c =
-    let told : c.field_refusal-refused.result ≡ field_refusal c.args.value c.args.bytes (length c.args.out.now) = c.field_refusal-refused.ensures ∙ ap (λ (v : ℤ). field_refusal v c.args.bytes (length c.args.out.now)) (to_z-of_z w64 c.args.value c.ranges.value) in
-    let fits : (1 ≤ c.args.bytes) × (c.args.bytes ≤ max_bytes) × (c.args.bytes ≤ length c.args.out.now) = unrefused c.args.value c.args.bytes (length c.args.out.now) (sym told ∙ c.if-refused-ne0.false) in
+    let fits = field_fits c.args.value _ (to_z-of_z w64 c.args.value c.ranges.value) c.args.bytes c.args.out.now _ c.field_refusal.ensures c.in_ok-field_refusal.was in
     omega (arith, fits.1)
 
 pub returns : goal.returns
-unfolding field_written field_after
 returns c =
-    let told : c.field_refusal-refused.result ≡ field_refusal c.args.value c.args.bytes (length c.args.out.now) = c.field_refusal-refused.ensures ∙ ap (λ (v : ℤ). field_refusal v c.args.bytes (length c.args.out.now)) (to_z-of_z w64 c.args.value c.ranges.value) in
-    let fits : (1 ≤ c.args.bytes) × (c.args.bytes ≤ max_bytes) × (c.args.bytes ≤ length c.args.out.now) = unrefused c.args.value c.args.bytes (length c.args.out.now) (sym told ∙ c.if-refused-ne0.false) in
-    let said = written_so (field_of c.args.bytes c.args.value) c.args.out.now _ _ _ _ told c.if-refused-ne0.false (sym (length_field c.args.bytes c.args.value fits.0))
-    (field_front c.args.bytes c.args.value (to_z-of_z w64 c.args.value c.ranges.value) c.args.out.now fits.0 fits.2 c.put_field.ensures) in
+    let said = field_done c.args.value _ (to_z-of_z w64 c.args.value c.ranges.value) c.args.bytes c.args.out.now _ c.field_refusal.ensures _ c.in_ok-field_refusal.was c.put_field.ensures in
     record { value = said.0; out_after = said.1 }

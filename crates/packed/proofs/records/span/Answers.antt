@@ -1,7 +1,0 @@
-use Rattle.packed.proofs.records.span.Goals as goal
-
-pub returns-then-present : goal.returns-then-present
-returns-then-present c = rw c.if-present.true
-
-pub returns : goal.returns
-returns c = rw c.if-present.false
