@@ -18,7 +18,9 @@ impl ReadTrail<'_> {
         requires { sound_clause self.variables clause.now ≡ true }
         ensures { Says result ((m : ℕ) → member m clause.now ≡ true → is_false (trail_of self.entry.variables self.entry.session.now) m ≡ true) }
     {
-        clause.iter().all(|literal| self.false_place(*literal).is_some())
+        clause
+            .iter()
+            .all(|literal| self.false_place(*literal).is_some())
     }
 }
 

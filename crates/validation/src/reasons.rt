@@ -38,7 +38,10 @@ impl ReadTrail<'_> {
         requires literal_value { literal_within self.variables literal ≡ true }
         ensures { Says result (Before (trail_of self.entry.variables self.entry.session.now) place literal) }
     {
-        self.place_of(literal) == Some(place) || self.false_place(literal).is_some_and(|falsified| falsified < place)
+        self.place_of(literal) == Some(place)
+            || self
+                .false_place(literal)
+                .is_some_and(|falsified| falsified < place)
     }
 
     // The place of the literal that a clause implies: its others are false before it. None where it implies none.
@@ -48,7 +51,10 @@ impl ReadTrail<'_> {
         ensures { ImpliedPlace (trail_of self.entry.variables self.entry.session.now) clause.now result }
     {
         let place = self.true_place(clause)?;
-        clause.iter().all(|literal| self.false_before(place, *literal)).then_some(place)
+        clause
+            .iter()
+            .all(|literal| self.false_before(place, *literal))
+            .then_some(place)
     }
 
     // Each implied literal, whose level is that of the place before it, is marked.

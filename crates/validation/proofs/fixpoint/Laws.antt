@@ -9,16 +9,14 @@ use lib.Dec.{eqb, leb}
 use lib.ListN.{length, get_or}
 use Rattle.std.specs.Prelude.{Option, Some, None}
 use Rattle.std.specs.Option.{option_eq}
-use Rattle.base.proofs.Lists.{part}
-use Rattle.book.specs.Numbers.{variables_of, clauses_of, clause_start, clause_at, formula_of}
-use Rattle.book.proofs.PartLaws.{clause_between, clauses_counted, clause_of_formula}
+use Rattle.book.specs.Numbers.{variables_of, clauses_of, clause_at, formula_of}
+use Rattle.book.proofs.PartLaws.{clauses_counted, clause_of_formula}
 use Rattle.run.specs.Trail.{Entry, opposite, place, level, lowered}
 use Rattle.run.specs.Scan.{Cell}
 use Rattle.run.specs.Run.{clause_of, size, cell_of}
 use Rattle.run.specs.Valid.{first_watch, second_watch, Fixpoint}
 use Rattle.run.proofs.Clauses.{clause_exists}
 use Rattle.run.proofs.Trails.{true_place, place_true, place_within}
-use Rattle.run.proofs.Levels.{level_within}
 use Rattle.run.specs.Progress.{Guard, BothGuarded}
 use Rattle.run.proofs.Propagation.{guarded_holds, holds_guarded}
 use Rattle.layout.specs.Layout.{decisions_at, levels_at, watches_at, held}
@@ -29,7 +27,7 @@ use Rattle.validation.specs.Inner.Places.{Readable, TrailPassed, PlaceOf, trail_
 use Rattle.validation.proofs.ReadLaws.{read_before}
 use Rattle.validation.proofs.SaysLaws.{says_false, says_equal, says_up_to}
 use Rattle.layout.proofs.HeldLaws.{get_or_cells}
-use Rattle.layout.proofs.TrailLaws.{decisions_within, level_read}
+use Rattle.layout.proofs.TrailLaws.{level_read}
 use Rattle.validation.proofs.fixpoint.HeightLaws.{HeightCase, height_on, height_cases, chosen_distinct, chosen_off, chosen_top, chosen_on}
 
 -- what is read at the place p of a literal

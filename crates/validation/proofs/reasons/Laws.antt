@@ -1,10 +1,10 @@
 -- Reasons: a clause that implies the literal at a place of the trail, and marks at the places that clauses imply.
-use Prim.Native.Nat.{ℕ, zero, suc, ◌+◌, ◌*◌, ◌-◌, ◌≤◌, ◌<◌}
+use Prim.Native.Nat.{ℕ, zero, suc, ◌+◌, ◌≤◌, ◌<◌}
 use native.Mathlib.Omega.{arith}
 use native.Mathlib.Numerals.{add-one}
 use mathlib.Core.Bool.{Bool, true, false}
 use mathlib.Core.List.{List}
-use mathlib.Core.Logic.{◌⊎◌, inl, inr, ⊎_elim}
+use mathlib.Core.Logic.{⊎_elim}
 use mathlib.Core.Path.{◌≡◌, refl, sym, ap, ◌∙◌}
 use borrow.Author.Count.{below_more}
 use borrow.Author.Tests.{eqb-true, eqb-false, eq-eqb, not-false}
@@ -15,14 +15,14 @@ use lib.Dec.{eqb, ltb}
 use lib.ListN.{length, get_or, set, replicate, length-set, length-replicate}
 use lib.Seq.{get_or-set_same, get_or-set_other}
 use Rattle.base.specs.Lists.{member, distinct}
-use Rattle.base.proofs.Bools.{alike, below, both, never}
+use Rattle.base.proofs.Bools.{alike, below, never}
 use Rattle.base.proofs.Members.{member_at, position}
 use Rattle.base.proofs.Lists.{get_or_alike}
 use Rattle.book.specs.Formula.{Formula}
 use Rattle.book.specs.Numbers.{variables_of, clauses_of, clause_at, formula_of}
 use Rattle.book.proofs.PartLaws.{clauses_counted, clause_of_formula}
 use Rattle.run.specs.Trail.{Entry, opposite, place, is_false, variables_on}
-use Rattle.run.specs.Run.{clause_of, size}
+use Rattle.run.specs.Run.{clause_of}
 use Rattle.run.specs.Valid.{Reason, Justified}
 use Rattle.run.proofs.Trails.{place_new, place_within, place_injective, consistent, true_place, place_true}
 use Rattle.run.proofs.Levels.{Suffix, whole, newer, suffix_place, suffix_on}

@@ -19,12 +19,12 @@ bounds-marks-place c = omega (arith, implied_small _ _ _ _ c.new-trail.result.re
 pub loop-c-preserved : goal.loop-c-preserved
 loop-c-preserved c =
     elim c.match-implied_place.branch [
-      in-Some w ↦
-        rw w.marks-is
-        (marking_more _ _ _ c.loop-c.c c.loop-c.invariant _
-        (omega (arith, implied_small _ _ _ _ c.new-trail.result.readable w.in-Some.ensures.implied))
-        (rw c.clause.ensures at w.in-Some.ensures))
-    | in_default w ↦ rw w.marks-is (marking_same _ _ _ c.loop-c.c c.loop-c.invariant (rw c.clause.ensures at w.in_default.ensures))
+      | in-Some w ↦
+          rw w.marks-is
+          (marking_more _ _ _ c.loop-c.c c.loop-c.invariant _
+          (omega (arith, implied_small _ _ _ _ c.new-trail.result.readable w.in-Some.ensures.implied))
+          (rw c.clause.ensures at w.in-Some.ensures))
+      | in_default w ↦ rw w.marks-is (marking_same _ _ _ c.loop-c.c c.loop-c.invariant (rw c.clause.ensures at w.in_default.ensures))
     ]
 
 pub returns : goal.returns

@@ -24,6 +24,6 @@ pub returns : goal.returns
 returns c =
     level_on _ _ c.args.self.readable _ _ c.in_ok-place.ensures _ c.levels_at.ensures c.args.below
     (elim c.else-below.branch [
-      else-below-via-then-below+else-level-self w ↦ inr w.if-level-self.false
-    | else-below-via-else-below w ↦ inl w.if-below.false
+      | else-below-via-then-below+else-level-self w ↦ inr w.if-level-self.false
+      | else-below-via-else-below w ↦ inl w.if-below.false
     ])

@@ -14,6 +14,6 @@ pub returns : goal.returns
 returns c =
     rw c.then_some.ensures
     (elim c.if-place-ne0.branch [
-      then-place-ne0 w ↦ rw (w.then_some-is, c.value_slot.ensures) (place_tested _ _ c.args.self.readable _ c.requires (rw c.value_slot.ensures at w.if-place-ne0.true))
-    | else-place-ne0 w ↦ rw (w.then_some-is, c.value_slot.ensures) (place_none _ _ c.args.self.readable _ c.requires (rw c.value_slot.ensures at w.if-place-ne0.false))
+      | then-place-ne0 w ↦ rw (w.then_some-is, c.value_slot.ensures) (place_tested _ _ c.args.self.readable _ c.requires (rw c.value_slot.ensures at w.if-place-ne0.true))
+      | else-place-ne0 w ↦ rw (w.then_some-is, c.value_slot.ensures) (place_none _ _ c.args.self.readable _ c.requires (rw c.value_slot.ensures at w.if-place-ne0.false))
     ])
