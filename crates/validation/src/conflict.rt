@@ -6,17 +6,17 @@ ghost use Rattle.book.specs.Numbers.{clauses_of, formula_of};
 ghost use Rattle.run.specs.Trail.{is_false};
 ghost use Rattle.validation.specs.Inner.Says.{Says};
 ghost use Rattle.validation.specs.Inner.Conflict.{AllFalse};
-ghost use Rattle.validation.specs.Inner.Places.{TrailPassed, trail_of};
+ghost use Rattle.validation.specs.Inner.Places.{TrailPassed};
+ghost use Rattle.validation.specs.Inner.Read.{read};
 
 use crate::places::ReadTrail;
 use layout::values::clause;
 
 impl ReadTrail<'_> {
     // Every literal of a clause is false.
-    #[tactic(auto, using(crate::proofs::places::Laws::sound_within))]
     fn all_false(self, clause: &[u32]) -> bool
         requires { sound_clause self.variables clause.now ≡ true }
-        ensures { Says result ((m : ℕ) → member m clause.now ≡ true → is_false (trail_of self.entry.variables self.entry.session.now) m ≡ true) }
+        ensures { Says result ((m : ℕ) → member m clause.now ≡ true → is_false (read self.entry) m ≡ true) }
     {
         clause
             .iter()

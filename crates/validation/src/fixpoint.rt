@@ -6,7 +6,8 @@ ghost use Rattle.run.specs.Progress.{Guard};
 ghost use Rattle.validation.specs.Inner.Says.{Says};
 ghost use Rattle.validation.specs.Inner.Cells.{CellsGood};
 ghost use Rattle.validation.specs.Inner.Fixpoint.{FixpointOn, ClauseFixpoint, LevelOf};
-ghost use Rattle.validation.specs.Inner.Places.{TrailPassed, trail_on};
+ghost use Rattle.validation.specs.Inner.Places.{TrailPassed};
+ghost use Rattle.validation.specs.Inner.Read.{read_on};
 
 use crate::places::ReadTrail;
 use layout::offsets::{DECISIONS, levels_at, watches_at};
@@ -16,7 +17,7 @@ impl ReadTrail<'_> {
     // The level of a true literal, none where the literal is not true. `below` leaves the top level out.
     fn level_of(self, below: bool, literal: u32) -> Option<u32>
         requires { literal_within self.variables literal ≡ true }
-        ensures { LevelOf (trail_on self.entry.variables self.entry.session.now below) literal result }
+        ensures { LevelOf (read_on self.entry below) literal result }
     {
         let place = self.place_of(literal)?;
         let level = self.session[levels_at(self.variables) + (place - 1)];
@@ -30,7 +31,7 @@ impl ReadTrail<'_> {
     fn guards(self, below: bool, a: u32, b: u32) -> bool
         requires a_value { literal_within self.variables a ≡ true }
         requires b_value { literal_within self.variables b ≡ true }
-        ensures { Says result (Guard (trail_on self.entry.variables self.entry.session.now below) (length (trail_on self.entry.variables self.entry.session.now below)) a b) }
+        ensures { Says result (Guard (read_on self.entry below) (length (read_on self.entry below)) a b) }
     {
         let Some(against) = self.level_of(below, opposite(a)) else {
             return true;
@@ -46,17 +47,16 @@ impl ReadTrail<'_> {
     fn clause_fixpoint(self, below: bool, clause: &[u32], first: usize, second: usize) -> bool
         requires clause_value { sound_clause self.variables clause.now ≡ true }
         requires first_in_bounds { 2 ≤ length clause.now → (first < length clause.now) × (second < length clause.now) }
-        ensures { Says result (ClauseFixpoint (trail_on self.entry.variables self.entry.session.now below) clause.now first second) }
+        ensures { Says result (ClauseFixpoint (read_on self.entry below) clause.now first second) }
     {
-        if clause.len() == 1 {
-            return self.level_of(below, clause[0]) == Some(0);
+        match clause {
+            [literal] => self.level_of(below, *literal) == Some(0),
+            [_, _, ..] => {
+                let (a, b) = (clause[first], clause[second]);
+                self.guards(below, a, b) && self.guards(below, b, a)
+            }
+            _ => true,
         }
-        if clause.len() < 2 {
-            return true;
-        }
-        let a = clause[first];
-        let b = clause[second];
-        self.guards(below, a, b) && self.guards(below, b, a)
     }
 }
 

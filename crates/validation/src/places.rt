@@ -3,7 +3,7 @@ ghost use Rattle.std.specs.Prelude.{◌≡◌, true};
 ghost use Rattle.book.specs.Formula.{literal_within};
 ghost use Rattle.book.specs.Numbers.{variables_of};
 ghost use Rattle.run.specs.Trail.{opposite};
-ghost use Rattle.validation.specs.Inner.Places.{PlaceOf, Readable, TrailPassed, trail_of};
+ghost use Rattle.validation.specs.Inner.Places.{PlaceOf, Readable, TrailPassed};
 
 use layout::offsets::value_slot;
 use layout::values::opposite;
@@ -17,6 +17,8 @@ pub(crate) struct ReadTrail<'a> {
 }
 
 impl<'a> ReadTrail<'a> {
+    ghost use Rattle.validation.specs.Inner.Read.{read};
+
     // The trail of a session on its book.
     pub(crate) fn new(book: &[u32], session: &'a [u32]) -> Self
         requires { TrailPassed book.now session.now }
@@ -32,7 +34,7 @@ impl<'a> ReadTrail<'a> {
     // The place of a literal on the trail, none where it is not true.
     pub(crate) fn place_of(self, literal: u32) -> Option<usize>
         requires { literal_within self.variables literal ≡ true }
-        ensures { PlaceOf (trail_of self.entry.variables self.entry.session.now) literal result }
+        ensures { PlaceOf (read self.entry) literal result }
     {
         let entry = self.session[value_slot(self.variables, literal)];
         let place = (entry / 2) as usize;
@@ -42,7 +44,7 @@ impl<'a> ReadTrail<'a> {
     // The place of the opposite of a literal, none where the literal is not false.
     pub(crate) fn false_place(self, literal: u32) -> Option<usize>
         requires { literal_within self.variables literal ≡ true }
-        ensures { PlaceOf (trail_of self.entry.variables self.entry.session.now) (opposite literal) result }
+        ensures { PlaceOf (read self.entry) (opposite literal) result }
     {
         self.place_of(opposite(literal))
     }

@@ -5,7 +5,8 @@ ghost use Rattle.book.specs.Numbers.{formula_of};
 ghost use Rattle.run.specs.Valid.{Justified};
 ghost use Rattle.layout.specs.Layout.{held};
 ghost use Rattle.validation.specs.Inner.Says.{Says};
-ghost use Rattle.validation.specs.Inner.Places.{TrailPassed, trail_of};
+ghost use Rattle.validation.specs.Inner.Places.{TrailPassed};
+ghost use Rattle.validation.specs.Inner.Read.{read};
 ghost use Rattle.validation.specs.Inner.Reasons.{Before, TruePlace, ImpliedPlace, ImpliedMarked};
 
 use crate::places::ReadTrail;
@@ -21,7 +22,7 @@ impl ReadTrail<'_> {
     #[tactic(auto, using(crate::proofs::places::Laws::sound_within))]
     fn true_place(self, clause: &[u32]) -> Option<usize>
         requires { sound_clause self.variables clause.now ≡ true }
-        ensures { TruePlace (trail_of self.entry.variables self.entry.session.now) clause.now result }
+        ensures { TruePlace (read self.entry) clause.now result }
     {
         for literal in clause {
             if let Some(place) = self.place_of(*literal) {
@@ -36,7 +37,7 @@ impl ReadTrail<'_> {
     fn false_before(self, place: usize, literal: u32) -> bool
         requires place_value { 0 < place }
         requires literal_value { literal_within self.variables literal ≡ true }
-        ensures { Says result (Before (trail_of self.entry.variables self.entry.session.now) place literal) }
+        ensures { Says result (Before (read self.entry) place literal) }
     {
         self.place_of(literal) == Some(place)
             || self
@@ -45,10 +46,9 @@ impl ReadTrail<'_> {
     }
 
     // The place of the literal that a clause implies: its others are false before it. None where it implies none.
-    #[tactic(auto, using(crate::proofs::places::Laws::sound_within))]
     fn implied_place(self, clause: &[u32]) -> Option<usize>
         requires { sound_clause self.variables clause.now ≡ true }
-        ensures { ImpliedPlace (trail_of self.entry.variables self.entry.session.now) clause.now result }
+        ensures { ImpliedPlace (read self.entry) clause.now result }
     {
         let place = self.true_place(clause)?;
         clause

@@ -107,33 +107,6 @@ module _ (trail : List Entry) (a b o : ℕ) (is : o ≡ opposite a) where
       pub guard_answered : Says (leb guard against) (Guard trail (length trail) a b)
       guard_answered = says_up_to guard against guard_holds guard_not
 
--- a clause of one literal, of none, of more
-module _ (trail : List Entry) (clause : List ℕ) (first second : ℕ) where
-  pub unit_fixpoint : length clause ≡ 1 → (d : Option ℕ) → LevelOf trail (get_or clause 0 0) d
-      → Says (option_eq eqb d (Some 0)) (ClauseFixpoint trail clause first second)
-  unit_fixpoint one None off = says_false (λ s. omega (arith, s.unit one))
-  unit_fixpoint one (Some d) on =
-      says_equal d 0
-      (λ e. record { unit = λ _. omega arith; watches = λ two. absurd (omega arith) })
-      (λ n s. omega (arith, s.unit one))
-
-  pub none_fixpoint : length clause < 2 → (length clause ≡ 1 → ⊥) → ClauseFixpoint trail clause first second
-  none_fixpoint few n = record { unit = λ one. absurd (n one); watches = λ two. absurd (omega arith) }
-
-  module _ (a b : ℕ) (two : 2 ≤ length clause) (at_first : a ≡ get_or clause first 0) (at_second : b ≡ get_or clause second 0) where
-    pub pair_fixpoint : Guard trail (length trail) a b → Guard trail (length trail) b a → ClauseFixpoint trail clause first second
-    pair_fixpoint forth back =
-        record {
-          unit = λ one. absurd (omega arith);
-          watches = λ _. rw (← at_first, ← at_second) (record { forth = forth; back = back });
-        }
-
-    pub fixpoint_forth : ClauseFixpoint trail clause first second → Guard trail (length trail) a b
-    fixpoint_forth s = rw (at_first, at_second) (s.watches two).forth
-
-    pub fixpoint_back : ClauseFixpoint trail clause first second → Guard trail (length trail) b a
-    fixpoint_back s = rw (at_first, at_second) (s.watches two).back
-
 -- clause c of the book, with the watches that the numbers hold
 module _ (book numbers : List ℕ) (below : Bool) where
   abbrev pub FixpointAt : ℕ → Type 0

@@ -102,6 +102,3 @@ pub record Room (book numbers : List ℕ) (variables clauses : ℕ) : Type 0 whe
   pub variables_are : variables ≡ variables_of book
   pub clauses_are : clauses ≡ clauses_of book
   pub fits : Fits (variables_of book) (clauses_of book) numbers
-
-pub passed_fits : (book numbers : List ℕ) → TrailPassed book numbers → Fits (variables_of book) (clauses_of book) numbers
-passed_fits book numbers x = session_fits (variables_of book) (clauses_of book) refl refl x.enough

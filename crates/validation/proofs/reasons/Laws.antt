@@ -110,13 +110,6 @@ module _ (trail : List Entry) (m : ℕ) where
   false_not None there e f = omega (arith, true_place trail (opposite m) f)
   false_not (Some q) there e f = never refl e
 
--- marks at the places of the implied literals, place by place
-pub marked_to_more : (v : ℕ) (numbers : List ℕ) (marks : List Bool) (i : ℕ) → ImpliedMarkedTo v numbers marks i
-    → (ImpliedAt v numbers i → get_or marks (i + 1) false ≡ true)
-    → ImpliedMarkedTo v numbers marks (i + 1)
-marked_to_more v numbers marks i before here =
-    below_more (λ k. ImpliedAt v numbers k → get_or marks (suc k) false ≡ true) i before (λ e. rw (← add-one) (here e))
-
 -- just the places that the first n clauses imply are marked
 pub record Marking (trail : List Entry) (book : List ℕ) (marks : List Bool) (n : ℕ) : Type 0 where
   pub long : length marks ≡ place_marks
