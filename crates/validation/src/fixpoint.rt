@@ -15,6 +15,7 @@ use layout::values::{clause, opposite};
 
 impl ReadTrail<'_> {
     // The level of a true literal, none where the literal is not true. `below` leaves the top level out.
+    #[tactic(auto, using(crate::proofs::places::Laws::place_small))]
     fn level_of(self, below: bool, literal: u32) -> Option<u32>
         requires { literal_within self.variables literal ≡ true }
         ensures { LevelOf (read_on self.entry below) literal result }
@@ -28,6 +29,7 @@ impl ReadTrail<'_> {
     }
 
     // Where the literal a is false, b is true at a level not above.
+    #[tactic(auto, using(book::proofs::SoundLaws::literal_parts, crate::proofs::places::Laws::opposite_within))]
     fn guards(self, below: bool, a: u32, b: u32) -> bool
         requires a_value { literal_within self.variables a ≡ true }
         requires b_value { literal_within self.variables b ≡ true }

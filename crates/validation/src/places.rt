@@ -32,6 +32,7 @@ impl<'a> ReadTrail<'a> {
     }
 
     // The place of a literal on the trail, none where it is not true.
+    #[tactic(auto, using(book::proofs::SoundLaws::literal_parts))]
     pub(crate) fn place_of(self, literal: u32) -> Option<usize>
         requires { literal_within self.variables literal ≡ true }
         ensures { PlaceOf (read self.entry) literal result }
@@ -42,6 +43,7 @@ impl<'a> ReadTrail<'a> {
     }
 
     // The place of the opposite of a literal, none where the literal is not false.
+    #[tactic(auto, using(book::proofs::SoundLaws::literal_parts, crate::proofs::places::Laws::opposite_within))]
     pub(crate) fn false_place(self, literal: u32) -> Option<usize>
         requires { literal_within self.variables literal ≡ true }
         ensures { PlaceOf (read self.entry) (opposite literal) result }

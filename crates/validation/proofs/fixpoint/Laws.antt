@@ -5,10 +5,9 @@ use mathlib.Core.Bool.{Bool, true, false, cond}
 use mathlib.Core.List.{List}
 use mathlib.Core.Logic.{◌⊎◌, inl, inr, ⊎_elim}
 use mathlib.Core.Path.{◌≡◌, refl, sym, subst, ap, ◌∙◌}
-use lib.Dec.{eqb, leb}
+use lib.Dec.{leb}
 use lib.ListN.{length, get_or}
-use Rattle.std.specs.Prelude.{Option, Some, None}
-use Rattle.std.specs.Option.{option_eq}
+use Rattle.std.specs.Prelude.{Some}
 use Rattle.book.specs.Numbers.{variables_of, clauses_of, clause_at, formula_of}
 use Rattle.book.proofs.PartLaws.{clauses_counted, clause_of_formula}
 use Rattle.run.specs.Trail.{Entry, opposite, place, level, lowered}
@@ -22,10 +21,10 @@ use Rattle.run.proofs.Propagation.{guarded_holds, holds_guarded}
 use Rattle.layout.specs.Layout.{decisions_at, levels_at, watches_at, held}
 use Rattle.validation.specs.Inner.Says.{Says}
 use Rattle.validation.specs.Inner.Cells.{CellsGood}
-use Rattle.validation.specs.Inner.Fixpoint.{FixpointOn, height, LevelOf, ClauseFixpoint}
+use Rattle.validation.specs.Inner.Fixpoint.{FixpointOn, height, ClauseFixpoint}
 use Rattle.validation.specs.Inner.Places.{Readable, TrailPassed, PlaceOf, trail_of, trail_on}
 use Rattle.validation.proofs.ReadLaws.{read_before}
-use Rattle.validation.proofs.SaysLaws.{says_false, says_equal, says_up_to}
+use Rattle.validation.proofs.SaysLaws.{says_up_to}
 use Rattle.layout.proofs.HeldLaws.{get_or_cells}
 use Rattle.layout.proofs.TrailLaws.{level_read}
 use Rattle.validation.proofs.fixpoint.HeightLaws.{HeightCase, height_on, height_cases, chosen_distinct, chosen_off, chosen_top, chosen_on}
@@ -39,9 +38,6 @@ module _ (v : ℕ) (numbers : List ℕ) (r : Readable v numbers) (l : ℕ) where
   level_off lower off = chosen_off (trail_of v numbers) r.good.once lower l off
 
   module _ (p : ℕ) (there : PlaceOf (trail_of v numbers) l (Some p)) where
-    pub place_small : p ≤ v
-    place_small = omega (arith, short, place_within (trail_of v numbers) l)
-
     module _ (levels : ℕ) (levels-are : levels ≡ levels_at v) (lower : Bool) where
       level-there : get_or numbers (levels + (p - 1)) 0 ≡ level (trail_of v numbers) l
       level-there =

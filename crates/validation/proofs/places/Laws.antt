@@ -26,8 +26,9 @@ use Rattle.book.proofs.SoundLaws.{clause_parts, literal_parts}
 use Rattle.book.proofs.WellFormedLaws.{well_formed_clause}
 use Rattle.run.specs.Trail.{opposite, place}
 use Rattle.run.proofs.Opposites.{opposite_cases, OppositeCase}
+use Rattle.run.proofs.Trails.{place_within}
 use Rattle.layout.specs.Layout.{Fits, value_slot}
-use Rattle.layout.proofs.FitsLaws.{session_fits, session_trail_fits}
+use Rattle.layout.proofs.FitsLaws.{session_trail_fits}
 use Rattle.layout.proofs.TrailLaws.{place_read, place_read_none}
 use Rattle.validation.specs.Inner.Says.{Says}
 use Rattle.validation.specs.Inner.Places.{Readable, TrailPassed, PlaceOf, trail_of}
@@ -88,6 +89,13 @@ module _ (v : ℕ) (numbers : List ℕ) (r : Readable v numbers) (l : ℕ) (w : 
   place_tested on =
       ⊎_elim (λ e. rw e (omega arith, sym (same_sign (eqb-true _ _ e)))) (λ e. rw e (sym (other_sign (eqb-false _ _ e))))
       (true_or_false (eqb (entry % 2) (l % 2)))
+
+pub place_small : (v : ℕ) (numbers : List ℕ) (l : ℕ) → Readable v numbers → place (trail_of v numbers) l ≤ v
+place_small v numbers l r =
+    let within = place_within (trail_of v numbers) l in
+    let count = r.good.is_held.count in
+    let most = r.good.count_within in
+    omega arith
 
 -- numbers of a well-formed book's length may be read, and the book's clauses are sound
 module _ (book numbers : List ℕ) (x : TrailPassed book numbers) (v : ℕ) (is : v ≡ variables_of book) where

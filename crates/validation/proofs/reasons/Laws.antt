@@ -1,7 +1,6 @@
 -- Reasons: a clause that implies the literal at a place of the trail, and marks at the places that clauses imply.
 use Prim.Native.Nat.{ℕ, zero, suc, ◌+◌, ◌≤◌, ◌<◌}
 use native.Mathlib.Omega.{arith}
-use native.Mathlib.Numerals.{add-one}
 use mathlib.Core.Bool.{Bool, true, false}
 use mathlib.Core.List.{List}
 use mathlib.Core.Logic.{⊎_elim}
@@ -30,8 +29,8 @@ use Rattle.run.proofs.Clauses.{clause_exists}
 use Rattle.layout.specs.Layout.{length_at, trail_at, levels_at, level_before, held_trail, held}
 use Rattle.validation.specs.Inner.Says.{Says}
 use Rattle.validation.specs.Inner.Conflict.{AllFalse}
-use Rattle.validation.specs.Inner.Places.{Readable, TrailPassed, PlaceOf, trail_of}
-use Rattle.validation.specs.Inner.Reasons.{Before, Implies, TrueAt, ImpliesOnly, ImpliesNone, ImpliedPlace, place_marks, ImpliedAt, ImpliedMarkedTo, ImpliedMarked}
+use Rattle.validation.specs.Inner.Places.{TrailPassed, PlaceOf, trail_of}
+use Rattle.validation.specs.Inner.Reasons.{Before, Implies, TrueAt, ImpliesOnly, ImpliesNone, ImpliedPlace, place_marks, ImpliedAt, ImpliedMarked}
 use Rattle.base.proofs.Occurrences.{at_members}
 use Rattle.validation.proofs.SaysLaws.{says_false, says_below, says_alike}
 use Rattle.validation.proofs.trail.Laws.{held_length}
@@ -296,12 +295,3 @@ module _ (book numbers : List ℕ) (c : ℕ) (less : c < clauses_of book) where
       (λ all. (omega (arith, ap length same), λ m on. all m (rw same at on)))
       (λ all m on. all.1 m (rw same on))
       said
-
--- a place that a clause implies is at most the number of variables
-pub implied_small : (v : ℕ) (numbers clause : List ℕ) (h : ℕ) → Readable v numbers → Implies (trail_of v numbers) clause h → h ≤ v
-implied_small v numbers clause h x i =
-    let within = place_within (trail_of v numbers) i.literal in
-    let there = i.there in
-    let count = x.good.is_held.count in
-    let most = x.good.count_within in
-    omega arith

@@ -1,8 +1,8 @@
 use native.Mathlib.Omega.{arith}
 use mathlib.Core.Path.{◌≡◌}
 use Rattle.book.specs.Numbers.{clauses_of}
-use Rattle.validation.proofs.places.Laws.{passed_clause}
-use Rattle.validation.proofs.reasons.Laws.{marking_none, marking_same, marking_more, justified_answered, implied_small}
+use Rattle.validation.proofs.places.Laws.{passed_clause, place_small}
+use Rattle.validation.proofs.reasons.Laws.{marking_none, marking_same, marking_more, justified_answered}
 use Rattle.validation.proofs.reasons.justified.Goals as goal
 use Rattle.validation.proofs.reasons.justified.Goals.{in-Some, in_default}
 
@@ -13,16 +13,13 @@ pub implied_place-requires : goal.implied_place-requires
 implied_place-requires c =
     rw c.clause.ensures (passed_clause _ _ c.requires _ c.new-trail.ensures.variables c.loop-c.c (omega arith))
 
-pub bounds-marks-place : goal.bounds-marks-place
-bounds-marks-place c = omega (arith, implied_small _ _ _ _ c.new-trail.result.readable c.in-Some.ensures.implied)
-
 pub loop-c-preserved : goal.loop-c-preserved
 loop-c-preserved c =
     elim c.match-implied_place.branch [
       | in-Some w ↦
           rw w.marks-is
           (marking_more _ _ _ c.loop-c.c c.loop-c.invariant _
-          (omega (arith, implied_small _ _ _ _ c.new-trail.result.readable w.in-Some.ensures.implied))
+          (let there = w.in-Some.ensures.implied.there in omega (arith, place_small _ _ w.in-Some.ensures.implied.literal c.new-trail.result.readable))
           (rw c.clause.ensures at w.in-Some.ensures))
       | in_default w ↦ rw w.marks-is (marking_same _ _ _ c.loop-c.c c.loop-c.invariant (rw c.clause.ensures at w.in_default.ensures))
     ]

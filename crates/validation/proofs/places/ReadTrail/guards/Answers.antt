@@ -1,15 +1,6 @@
-use native.Mathlib.Omega.{arith}
-use Rattle.book.proofs.SoundLaws.{literal_parts}
 use Rattle.validation.proofs.SaysLaws.{says_true, says_false}
-use Rattle.validation.proofs.places.Laws.{opposite_within}
 use Rattle.validation.proofs.fixpoint.Laws.{guard_free, guard_none, guard_answered}
 use Rattle.validation.proofs.places.ReadTrail.guards.Goals as goal
-
-pub opposite-requires : goal.opposite-requires
-opposite-requires c = omega (arith, literal_parts _ _ c.requires.a_value)
-
-pub level_of-requires : goal.level_of-requires
-level_of-requires c = rw c.opposite.ensures (opposite_within _ _ c.requires.a_value)
 
 pub returns-in_default : goal.returns-in_default
 returns-in_default c = says_true (guard_free _ _ _ _ c.opposite.ensures c.in_default.ensures)

@@ -1,20 +1,10 @@
-use native.Mathlib.Omega.{arith}
 use mathlib.Core.Logic.{inl, inr}
-use Rattle.validation.proofs.fixpoint.Laws.{place_small, level_off, level_top, level_on}
+use Rattle.validation.proofs.fixpoint.Laws.{level_off, level_top, level_on}
 use Rattle.validation.proofs.places.ReadTrail.level_of.Goals as goal
 use Rattle.validation.proofs.places.ReadTrail.level_of.Goals.{else-below-via-then-below+else-level-self, else-below-via-else-below}
 
 pub returns-in_err-place : goal.returns-in_err-place
 returns-in_err-place c = rw c.from_residual.ensures (level_off _ _ c.args.self.readable _ c.args.below c.in_err-place.ensures)
-
-pub overflow_add-level : goal.overflow_add-level
-overflow_add-level c = omega (arith, place_small _ _ c.args.self.readable _ _ c.in_ok-place.ensures)
-
-pub offset_bounds-self-levels_at : goal.offset_bounds-self-levels_at
-offset_bounds-self-levels_at c = omega (arith, place_small _ _ c.args.self.readable _ _ c.in_ok-place.ensures)
-
-pub bounds-self-levels_at : goal.bounds-self-levels_at
-bounds-self-levels_at c = omega (arith, place_small _ _ c.args.self.readable _ _ c.in_ok-place.ensures)
 
 pub returns-then-level-self : goal.returns-then-level-self
 returns-then-level-self c =

@@ -1,14 +1,6 @@
-use native.Mathlib.Omega.{arith}
-use Rattle.book.proofs.SoundLaws.{literal_parts}
 use Rattle.validation.proofs.places.Laws.{place_none, place_tested}
 use Rattle.validation.proofs.places.ReadTrail.place_of.Goals as goal
 use Rattle.validation.proofs.places.ReadTrail.place_of.Goals.{then-place-ne0, else-place-ne0}
-
-pub value_slot-requires : goal.value_slot-requires
-value_slot-requires c = (omega arith, (literal_parts _ _ c.requires).0)
-
-pub bounds-self-value_slot : goal.bounds-self-value_slot
-bounds-self-value_slot c = omega (arith, literal_parts _ _ c.requires)
 
 pub returns : goal.returns
 returns c =

@@ -2,9 +2,9 @@ use Prim.Native.Nat.{ℕ, ◌<◌}
 use mathlib.Core.Path.{◌≡◌}
 use lib.ListN.{get_or}
 use Rattle.run.specs.Trail.{place}
-use Rattle.validation.specs.Inner.Places.{trail_of}
+use Rattle.validation.specs.Inner.Read.{read}
 use Rattle.validation.proofs.places.ReadTrail.true_place.Given as goal
 
 abbrev pub invariant-loop-literal : goal.invariant-loop-literal
 invariant-loop-literal l =
-    (k : ℕ) → k < l.literal-index → place (trail_of l.self.variables l.self.session.now) (get_or l.clause k 0) ≡ 0
+    (k : ℕ) → k < l.literal-index → place (read l.self) (get_or l.clause k 0) ≡ 0
