@@ -25,6 +25,7 @@ impl ReadTrail<'_> {
 }
 
 // Clause c has a literal, and every one is false.
+#[tactic(auto, using(crate::proofs::places::Laws::passed_clause))]
 pub(crate) fn conflict_false(book: &[u32], session: &[u32], c: usize) -> bool
     requires trail_passed { TrailPassed book.now session.now }
     requires c_bound { c < clauses_of book.now }

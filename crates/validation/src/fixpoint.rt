@@ -63,6 +63,7 @@ impl ReadTrail<'_> {
 }
 
 // Every clause is at the fixpoint on the trail, or on the trail without its top level.
+#[tactic(auto, using(crate::proofs::places::Laws::passed_clause))]
 pub(crate) fn fixpoint(book: &[u32], session: &[u32], below: bool) -> bool
     requires trail_passed { TrailPassed book.now session.now }
     requires cells_good { CellsGood (formula_of book.now) session.now }

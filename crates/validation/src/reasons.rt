@@ -73,7 +73,7 @@ impl ReadTrail<'_> {
 }
 
 // Each implied literal has a reason: a pass over the clauses marks the places that they imply, another one goes over the trail.
-#[tactic(auto, using(crate::proofs::places::Laws::place_small))]
+#[tactic(auto, using(crate::proofs::places::Laws::place_small, crate::proofs::places::Laws::passed_clause))]
 pub(crate) fn justified(book: &[u32], session: &[u32]) -> bool
     requires { TrailPassed book.now session.now }
     ensures { Says result (Justified (formula_of book.now) (held (formula_of book.now) session.now).trail) }

@@ -2,14 +2,8 @@ use native.Mathlib.Omega.{arith}
 use borrow.Author.Tests.{eqb-true, eqb-false}
 use mathlib.Core.Path.{◌≡◌, sym, ap, ◌∙◌}
 use lib.ListN.{length}
-use Rattle.validation.proofs.places.Laws.{passed_clause}
 use Rattle.validation.proofs.reasons.Laws.{none_at, false_at}
 use Rattle.validation.proofs.conflict.conflict_false.Goals as goal
-
-pub all_false-requires : goal.all_false-requires
-all_false-requires c =
-    rw c.clause-literals.ensures
-    (passed_clause _ _ c.requires.trail_passed _ c.new.ensures.variables _ c.requires.c_bound)
 
 pub returns-then-not-is_empty : goal.returns-then-not-is_empty
 returns-then-not-is_empty c =

@@ -1,12 +1,7 @@
 use native.Mathlib.Omega.{arith}
 use Rattle.validation.proofs.SaysLaws.{says_true, says_false}
-use Rattle.validation.proofs.places.Laws.{passed_clause}
 use Rattle.validation.proofs.fixpoint.Laws.{watches_within, all_fixpoint, fixpoint_each}
 use Rattle.validation.proofs.fixpoint.fixpoint.Goals as goal
-
-pub clause_fixpoint-requires-clause-clause_value : goal.clause_fixpoint-requires-clause-clause_value
-clause_fixpoint-requires-clause-clause_value c =
-    rw c.clause.ensures (passed_clause _ _ c.requires.trail_passed _ c.new-trail.ensures.variables c.loop-c.c (omega arith))
 
 pub clause_fixpoint-requires-clause-first_in_bounds : goal.clause_fixpoint-requires-clause-first_in_bounds
 clause_fixpoint-requires-clause-first_in_bounds c =

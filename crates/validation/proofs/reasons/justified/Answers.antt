@@ -1,17 +1,13 @@
 use native.Mathlib.Omega.{arith}
 use mathlib.Core.Path.{◌≡◌}
 use Rattle.book.specs.Numbers.{clauses_of}
-use Rattle.validation.proofs.places.Laws.{passed_clause, place_small}
+use Rattle.validation.proofs.places.Laws.{place_small}
 use Rattle.validation.proofs.reasons.Laws.{marking_none, marking_same, marking_more, justified_answered}
 use Rattle.validation.proofs.reasons.justified.Goals as goal
 use Rattle.validation.proofs.reasons.justified.Goals.{in-Some, in_default}
 
 pub loop-c-init : goal.loop-c-init
 loop-c-init c = marking_none _ _
-
-pub implied_place-requires : goal.implied_place-requires
-implied_place-requires c =
-    rw c.clause.ensures (passed_clause _ _ c.requires _ c.new-trail.ensures.variables c.loop-c.c (omega arith))
 
 pub loop-c-preserved : goal.loop-c-preserved
 loop-c-preserved c =
