@@ -20,6 +20,7 @@ impl<'a> ReadTrail<'a> {
     ghost use Rattle.validation.specs.Inner.Read.{read};
 
     // The trail of a session on its book.
+    #[tactic(auto, using(crate::proofs::places::Laws::passed_readable))]
     pub(crate) fn new(book: &[u32], session: &'a [u32]) -> Self
         requires { TrailPassed book.now session.now }
         ensures session { result.session.now ≡ session.now }
