@@ -5,6 +5,7 @@ pub mod Fixpoint
 pub mod Header
 pub mod Lists
 pub mod Places
+pub mod Read
 pub mod Reasons
 pub mod Says
 pub mod Trail

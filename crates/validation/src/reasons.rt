@@ -1,115 +1,89 @@
 // The reasons of the implied literals.
-ghost use Rattle.std.specs.Prelude.{◌≡◌, true};
+ghost use Rattle.std.specs.Prelude.{◌≡◌, ◌<◌, true};
 ghost use Rattle.book.specs.Formula.{literal_within, sound_clause};
 ghost use Rattle.book.specs.Numbers.{formula_of};
-ghost use Rattle.run.specs.Trail.{place};
 ghost use Rattle.run.specs.Valid.{Justified};
 ghost use Rattle.layout.specs.Layout.{held};
 ghost use Rattle.validation.specs.Inner.Says.{Says};
-ghost use Rattle.validation.specs.Inner.Places.{Readable, TrailPassed, trail_of};
+ghost use Rattle.validation.specs.Inner.Places.{TrailPassed};
+ghost use Rattle.validation.specs.Inner.Read.{read};
 ghost use Rattle.validation.specs.Inner.Reasons.{Before, TruePlace, ImpliedPlace, ImpliedMarked};
 
-use crate::places::place_of;
+use crate::places::ReadTrail;
 use book::limits::MAX_VARIABLES;
 use layout::offsets::{LENGTH, levels_at};
-use layout::values::{clause_start, opposite, wide};
+use layout::values::{clause, level_before};
 
-// One more than the places of the longest trail.
+// One mark for each place of the longest trail; places count from 1.
 const PLACE_MARKS: usize = MAX_VARIABLES + 1;
 
-// The place of a true literal of a clause with only false ones before it, 0 where there is none: the first that is not false is open, or none is not false.
-fn true_place(clause: &[u32], session: &[u32], variables: usize) -> usize
-    requires readable { Readable variables session.now }
-    requires clause_value { sound_clause variables clause.now ≡ true }
-    ensures { TruePlace (trail_of variables session.now) clause.now result }
-{
-    let mut i = 0;
-    while i < clause.len() {
-        let place = place_of(session, variables, clause[i]);
-        if place != 0 {
-            return place;
+impl ReadTrail<'_> {
+    // The place of a true literal of a clause with only false ones before it, none where the first that is not false is open, or none is not false.
+    #[tactic(auto, using(crate::proofs::places::Laws::sound_within))]
+    fn true_place(self, clause: &[u32]) -> Option<usize>
+        requires { sound_clause self.variables clause.now ≡ true }
+        ensures { TruePlace (read self.entry) clause.now result }
+    {
+        for literal in clause {
+            if let Some(place) = self.place_of(*literal) {
+                return Some(place);
+            }
+            self.false_place(*literal)?;
         }
-        if place_of(session, variables, opposite(clause[i])) == 0 {
-            return 0;
-        }
-        i += 1;
+        None
     }
-    0
-}
 
-// A literal stands at a place or is false before it.
-fn false_before(session: &[u32], variables: usize, place: usize, literal: u32) -> bool
-    requires readable { Readable variables session.now }
-    requires literal_value { literal_within variables literal ≡ true }
-    ensures { Says result (Before (trail_of variables session.now) place literal) }
-{
-    if place_of(session, variables, literal) == place {
-        return true;
+    // A literal stands at a place or is false before it.
+    fn false_before(self, place: usize, literal: u32) -> bool
+        requires place_value { 0 < place }
+        requires literal_value { literal_within self.variables literal ≡ true }
+        ensures { Says result (Before (read self.entry) place literal) }
+    {
+        self.place_of(literal) == Some(place)
+            || self
+                .false_place(literal)
+                .is_some_and(|falsified| falsified < place)
     }
-    let falsified = place_of(session, variables, opposite(literal));
-    if falsified == 0 {
-        return false;
-    }
-    falsified < place
-}
 
-// The place of the literal that a clause implies: its others are false before it. 0 where it implies none.
-fn implied_place(clause: &[u32], session: &[u32], variables: usize) -> usize
-    requires readable { Readable variables session.now }
-    requires clause_value { sound_clause variables clause.now ≡ true }
-    ensures { ImpliedPlace (trail_of variables session.now) clause.now result }
-{
-    let place = true_place(clause, session, variables);
-    if place == 0 {
-        return 0;
+    // The place of the literal that a clause implies: its others are false before it. None where it implies none.
+    fn implied_place(self, clause: &[u32]) -> Option<usize>
+        requires { sound_clause self.variables clause.now ≡ true }
+        ensures { ImpliedPlace (read self.entry) clause.now result }
+    {
+        let place = self.true_place(clause)?;
+        clause
+            .iter()
+            .all(|literal| self.false_before(place, *literal))
+            .then_some(place)
     }
-    let mut i = 0;
-    while i < clause.len() {
-        if !false_before(session, variables, place, clause[i]) {
-            return 0;
-        }
-        i += 1;
-    }
-    place
-}
 
-// Each implied literal, whose level is that of the place before it, is marked.
-fn implied_marked(session: &[u32], variables: usize, marks: &[u8; PLACE_MARKS]) -> bool
-    requires { Readable variables session.now }
-    ensures { Says result (ImpliedMarked variables session.now marks.now) }
-{
-    let count = wide(session[LENGTH]);
-    let levels = levels_at(variables);
-    let mut before = 0;
-    let mut i = 0;
-    while i < count {
-        let level = session[levels + i];
-        if level == before {
-            if marks[i + 1] != 1 {
+    // Each implied literal, whose level is that of the place before it, is marked.
+    fn implied_marked(self, marks: &[bool; PLACE_MARKS]) -> bool
+        ensures { Says result (ImpliedMarked self.entry.variables self.entry.session.now marks.now) }
+    {
+        let levels = levels_at(self.variables);
+        for i in 0..self.session[LENGTH] as usize {
+            let implied = self.session[levels + i] == level_before(self.session, self.variables, i);
+            if implied && !marks[i + 1] {
                 return false;
             }
         }
-        before = level;
-        i += 1;
+        true
     }
-    true
 }
 
 // Each implied literal has a reason: a pass over the clauses marks the places that they imply, another one goes over the trail.
+#[tactic(auto, using(crate::proofs::places::Laws::place_small, crate::proofs::places::Laws::passed_clause))]
 pub(crate) fn justified(book: &[u32], session: &[u32]) -> bool
     requires { TrailPassed book.now session.now }
     ensures { Says result (Justified (formula_of book.now) (held (formula_of book.now) session.now).trail) }
 {
-    let variables = book::variables(book);
-    let clauses = book::clauses(book);
-    let mut marks = [0u8; PLACE_MARKS];
-    let mut c = 0;
-    while c < clauses {
-        let start = clause_start(book, c);
-        let end = clause_start(book, c + 1);
-        let place = implied_place(&book[start..end], session, variables);
-        marks[place] = 1;
-        c += 1;
+    let trail = ReadTrail::new(book, session);
+    let mut marks = [false; PLACE_MARKS];
+    for c in 0..book::clauses(book) {
+        if let Some(place) = trail.implied_place(clause(book, c)) {
+            marks[place] = true;
+        }
     }
-    implied_marked(session, variables, &marks)
+    trail.implied_marked(&marks)
 }

@@ -1,5 +1,5 @@
 -- What the contracts of src/fixpoint.rt cite: the height of a literal, and propagation at its end, of one clause and of all.
-use Rattle.std.specs.Prelude.{ℕ, ◌≤◌, suc, ◌≡◌, Bool, cond, List, get_or, length}
+use Rattle.std.specs.Prelude.{ℕ, ◌+◌, ◌≤◌, suc, ◌≡◌, Bool, cond, List, get_or, length, Option, MatchOption}
 use Rattle.book.specs.Formula.{Formula}
 use Rattle.run.specs.Trail.{Entry, is_true, lowered, level}
 use Rattle.run.specs.Valid.{Fixpoint}
@@ -14,6 +14,10 @@ FixpointOn formula numbers below =
 -- one more than the level of a true literal; 0 where the literal is not true
 unfoldable pub height : List Entry → ℕ → ℕ
 height trail l = cond (is_true trail l) (suc (level trail l)) 0
+
+-- the level of a true literal, none where the literal is not true
+abbrev pub LevelOf : List Entry → ℕ → Option ℕ → Type 0
+LevelOf trail l r = MatchOption r (height trail l ≡ 0) (λ d. height trail l ≡ d + 1)
 
 -- a clause of one literal is true at level 0; the watches of a longer one hold
 pub record ClauseFixpoint (trail : List Entry) (clause : List ℕ) (first second : ℕ) : Type 0 where

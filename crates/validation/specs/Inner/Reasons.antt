@@ -1,5 +1,5 @@
 -- What the contracts of src/reasons.rt cite: the place that a clause implies, and marks at implied places.
-use Rattle.std.specs.Prelude.{ℕ, suc, ◌+◌, ◌<◌, ◌≡◌, true, List, get_or}
+use Rattle.std.specs.Prelude.{ℕ, suc, ◌+◌, ◌<◌, ◌≡◌, Bool, true, false, List, get_or, Option, MatchOption}
 use Rattle.base.specs.Lists.{member}
 use Rattle.book.specs.Formula.{max_variables}
 use Rattle.run.specs.Trail.{Entry, opposite, place}
@@ -17,17 +17,31 @@ pub record Implies (trail : List Entry) (clause : List ℕ) (h : ℕ) : Type 0 w
   pub there : place trail literal ≡ h
   pub others : (m : ℕ) → member m clause ≡ true → Before trail h m
 
--- the place of a true literal of the clause, or 0, and then the clause implies nothing
-pub record TruePlace (trail : List Entry) (clause : List ℕ) (r : ℕ) : Type 0 where
-  pub yes : 0 < r → (m : ℕ) × (member m clause ≡ true) × (place trail m ≡ r)
-  pub none : r ≡ 0 → (h : ℕ) → Implies trail clause h → ⊥
+-- a true literal of the clause stands at a place
+pub record TrueAt (trail : List Entry) (clause : List ℕ) (h : ℕ) : Type 0 where
+  pub literal : ℕ
+  pub holds : member literal clause ≡ true
+  pub on : 0 < h
+  pub there : place trail literal ≡ h
 
--- the place of the literal that the clause implies, 0 where there is none
-pub record ImpliedPlace (trail : List Entry) (clause : List ℕ) (r : ℕ) : Type 0 where
-  pub yes : 0 < r → Implies trail clause r
-  pub only : (h : ℕ) → Implies trail clause h → h ≡ r
+-- the literal at a place is the only one that the clause implies
+pub record ImpliesOnly (trail : List Entry) (clause : List ℕ) (h : ℕ) : Type 0 where
+  pub implied : Implies trail clause h
+  pub only : (k : ℕ) → Implies trail clause k → k ≡ h
 
--- one mark for each place of the longest trail, and one for 0
+-- the clause implies no literal of the trail
+abbrev pub ImpliesNone : List Entry → List ℕ → Type 0
+ImpliesNone trail clause = (h : ℕ) → Implies trail clause h → ⊥
+
+-- the place of a true literal of the clause, or none, and then the clause implies nothing
+abbrev pub TruePlace : List Entry → List ℕ → Option ℕ → Type 0
+TruePlace trail clause r = MatchOption r (ImpliesNone trail clause) (TrueAt trail clause)
+
+-- the place of the literal that the clause implies, none where there is none
+abbrev pub ImpliedPlace : List Entry → List ℕ → Option ℕ → Type 0
+ImpliedPlace trail clause r = MatchOption r (ImpliesNone trail clause) (ImpliesOnly trail clause)
+
+-- one mark for each place of the longest trail, and one before them
 abbrev pub place_marks : ℕ
 place_marks = max_variables + 1
 
@@ -36,8 +50,8 @@ abbrev pub ImpliedAt : ℕ → List ℕ → ℕ → Type 0
 ImpliedAt v numbers i = get_or numbers (levels_at v + i) 0 ≡ level_before v numbers i
 
 -- each implied literal among the first n of the trail is marked at its place
-abbrev pub ImpliedMarkedTo : ℕ → List ℕ → List ℕ → ℕ → Type 0
-ImpliedMarkedTo v numbers marks n = (i : ℕ) → i < n → ImpliedAt v numbers i → get_or marks (suc i) 0 ≡ 1
+abbrev pub ImpliedMarkedTo : ℕ → List ℕ → List Bool → ℕ → Type 0
+ImpliedMarkedTo v numbers marks n = (i : ℕ) → i < n → ImpliedAt v numbers i → get_or marks (suc i) false ≡ true
 
-abbrev pub ImpliedMarked : ℕ → List ℕ → List ℕ → Type 0
+abbrev pub ImpliedMarked : ℕ → List ℕ → List Bool → Type 0
 ImpliedMarked v numbers marks = ImpliedMarkedTo v numbers marks (get_or numbers length_at 0)
