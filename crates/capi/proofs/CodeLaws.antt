@@ -3,10 +3,14 @@ use Prim.Native.Nat.{ℕ, ◌+◌, ◌*◌, ◌/◌, ◌%◌}
 use native.Mathlib.Omega.{arith}
 use mathlib.Core.List.{List}
 use mathlib.Core.Logic.{inl, inr}
-use mathlib.Core.Path.{◌≡◌, refl, ap}
+use mathlib.Core.Path.{◌≡◌, refl, ap, sym, ◌∙◌}
+use Rattle.std.specs.Prelude.{Result, Ok, Err}
+use Rattle.refusals.specs.declared.Refusal.{Refusal}
+use Rattle.refusals.specs.Refusals.{number_of, refusal_of}
+use Rattle.refusals.proofs.OutcomeLaws.{refusal_number}
 use Rattle.session.specs.Outcomes.{lookup_answer}
 use Rattle.session.specs.declared.Assigned.{Assigned}
-use Rattle.session.specs.declared.Assigned.TheVariants.{Open, Positive, Negative, Refused}
+use Rattle.session.specs.declared.Assigned.TheVariants.{Open, Positive, Negative}
 use Rattle.session.proofs.LookupLaws.{refused_shown}
 use Rattle.session.proofs.ShownLevels.{lookup_level_within}
 use Rattle.capi.specs.Codes.{assigned_code, LookupTold}
@@ -15,17 +19,17 @@ use Rattle.capi.specs.Codes.{assigned_code, LookupTold}
 pub lookup_told : (book session : List ℕ) (v : ℕ) → LookupTold (assigned_code (lookup_answer book session v)) (lookup_answer book session v)
 lookup_told book session v = go (lookup_answer book session v) refl
   where
-    go : (a : Assigned) → lookup_answer book session v ≡ a → LookupTold (assigned_code a) a
-    go Open e = record { accepted = λ small. (omega arith, inl (refl, refl)); refused = λ large. absurd (omega arith) }
-    go (Positive n) e =
+    go : (a : Result Assigned Refusal) → lookup_answer book session v ≡ a → LookupTold (assigned_code a) a
+    go (Ok Open) e = record { accepted = λ small. (omega arith, inl (refl, refl)); refused = λ large. absurd (omega arith) }
+    go (Ok (Positive n)) e =
         let within = (lookup_level_within book session v n (inl e)).1 in
         let apart : n ≡ (4 * n + 1) / 4 = omega arith in
-        record { accepted = λ small. (omega arith, inr (inl (omega arith, ap Positive apart))); refused = λ large. absurd (omega arith) }
-    go (Negative n) e =
+        record { accepted = λ small. (omega arith, inr (inl (omega arith, ap (λ (m : ℕ). Ok (Positive m)) apart))); refused = λ large. absurd (omega arith) }
+    go (Ok (Negative n)) e =
         let within = (lookup_level_within book session v n (inr e)).1 in
         let apart : n ≡ (4 * n + 2) / 4 = omega arith in
-        record { accepted = λ small. (omega arith, inr (inr (omega arith, ap Negative apart))); refused = λ large. absurd (omega arith) }
-    go (Refused number) e =
-        let few = refused_shown book session v number e in
-        let apart : number ≡ (2 * 4294967296 + number) % 4294967296 = omega arith in
-        record { accepted = λ small. absurd (omega arith); refused = λ large. (omega arith, ap Refused apart) }
+        record { accepted = λ small. (omega arith, inr (inr (omega arith, ap (λ (m : ℕ). Ok (Negative m)) apart))); refused = λ large. absurd (omega arith) }
+    go (Err r) e =
+        let few = refused_shown book session v r e in
+        let apart : number_of r ≡ (2 * 4294967296 + number_of r) % 4294967296 = omega arith in
+        record { accepted = λ small. absurd (omega arith); refused = λ large. (omega arith, ap Err (sym (refusal_number r) ∙ ap refusal_of apart)) }

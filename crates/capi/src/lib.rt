@@ -12,98 +12,80 @@ ghost use Rattle.bands.specs.Bands.{checked_table};
 ghost use Rattle.rating.specs.Pricing.{premium_answer};
 ghost use Rattle.rating.specs.Ages.{age_answer};
 ghost use Rattle.packed.specs.Packed.{field_written, field_after, field_answer, record_written, record_after, record_answer};
-ghost use Rattle.capi.specs.Codes.{refusal_code, reading_code, answer_code, back_code, assigned_code, count_code, figures_code, figures_after, sum_code, sum_after, filing_code, quote_code, quote_after, ceiling_after, premium_code, amount_after, checked_code, age_after, written_code, field_code, value_after, record_code, base_after, premium_after, lines_after};
+ghost use Rattle.refusals.specs.Refusals.{number_of};
+ghost use Rattle.capi.specs.Codes.{refusal_code, done_code, count_code, propagated_code, answer_code, level_code, assigned_code, figures_code, figures_after, sum_after, filing_code, quote_code, quote_after, ceiling_after, premium_code, amount_after, checked_code, age_after, value_after, record_code, base_after, premium_after, lines_after};
 
-fn refusal(number: u32) -> u64
-    ensures { result ≡ refusal_code number }
+use bands::TableFault;
+use packed::QuoteRecord;
+use rating::Premium;
+use refusals::Refusal;
+use session::{Assigned, Propagated};
+
+fn refused(refusal: Refusal) -> u64
+    ensures { result ≡ refusal_code (number_of refusal) }
 {
-    2 * 4294967296 + number as u64
+    2 * 4294967296 + u64::from(refusal.number())
 }
 
-fn reading_code(reading: book::Reading) -> u64
-    ensures { result ≡ reading_code reading }
+// 0, or the refusal.
+fn done_code(answer: Result<(), Refusal>) -> u64
+    ensures { result ≡ done_code answer }
 {
-    match reading {
-        book::Reading::Book {
-            variables: _,
-            clauses: _,
-            literals: _,
-        } => 0,
-        book::Reading::Refused(number) => refusal(number),
+    match answer {
+        Ok(_) => 0,
+        Err(refusal) => refused(refusal),
     }
 }
 
-fn answer_code(answer: session::Answer) -> u64
+// How many, or the refusal.
+fn count_code(answer: Result<u32, Refusal>) -> u64
+    ensures { result ≡ count_code answer }
+{
+    match answer {
+        Ok(n) => u64::from(n),
+        Err(refusal) => refused(refusal),
+    }
+}
+
+fn propagated_code(propagated: Propagated) -> u64
+    ensures { result ≡ propagated_code propagated }
+{
+    match propagated {
+        Propagated::Implied(n) => u64::from(n),
+        Propagated::Conflict(clause) => 4294967296 + u64::from(clause),
+    }
+}
+
+fn answer_code(answer: Result<Propagated, Refusal>) -> u64
     ensures { result ≡ answer_code answer }
 {
     match answer {
-        session::Answer::Implied(n) => n as u64,
-        session::Answer::Conflict(clause) => 4294967296 + clause as u64,
-        session::Answer::Refused(number) => refusal(number),
+        Ok(propagated) => propagated_code(propagated),
+        Err(refusal) => refused(refusal),
     }
 }
 
-fn back_code(back: session::Back) -> u64
-    ensures { result ≡ back_code back }
-{
-    match back {
-        session::Back::Done => 0,
-        session::Back::Refused(number) => refusal(number),
-    }
-}
-
-fn assigned_code(assigned: session::Assigned) -> u64
-    ensures { result ≡ assigned_code assigned }
+fn level_code(assigned: Assigned) -> u64
+    ensures { result ≡ level_code assigned }
 {
     match assigned {
-        session::Assigned::Open => 0,
-        session::Assigned::Positive(level) => 4 * level as u64 + 1,
-        session::Assigned::Negative(level) => 4 * level as u64 + 2,
-        session::Assigned::Refused(number) => refusal(number),
-    }
-}
-
-fn count_code(count: session::Count) -> u64
-    ensures { result ≡ count_code count }
-{
-    match count {
-        session::Count::Of(n) => n as u64,
-        session::Count::Refused(number) => refusal(number),
-    }
-}
-
-fn filing_code(filing: chapters::Filing) -> u64
-    ensures { result ≡ filing_code filing }
-{
-    match filing {
-        chapters::Filing::Filed(written) => written as u64,
-        chapters::Filing::Refused(number) => refusal(number),
+        Assigned::Open => 0,
+        Assigned::Positive(level) => 4 * u64::from(level) + 1,
+        Assigned::Negative(level) => 4 * u64::from(level) + 2,
     }
 }
 
 // The number of open lines, or the refusal; the amount goes to `amount`.
-fn premium_code(premium: rating::Premium, amount: &mut i64) -> u64
-    ensures value { result ≡ premium_code premium }
-    ensures amount_after { amount.new ≡ amount_after premium amount.old }
+fn premium_code(answer: Result<Premium, Refusal>, amount: &mut i64) -> u64
+    ensures value { result ≡ premium_code answer }
+    ensures amount_after { amount.new ≡ amount_after answer amount.old }
 {
-    match premium {
-        rating::Premium::Of {
-            amount: cents,
-            open_lines,
-        } => {
-            *amount = cents;
-            open_lines as u64
+    match answer {
+        Ok(premium) => {
+            *amount = premium.amount;
+            u64::from(premium.open_lines)
         }
-        rating::Premium::Refused(number) => refusal(number),
-    }
-}
-
-fn written_code(written: packed::Written) -> u64
-    ensures { result ≡ written_code written }
-{
-    match written {
-        packed::Written::Bytes(n) => n as u64,
-        packed::Written::Refused(number) => refusal(number),
+        Err(unpriced) => refused(unpriced),
     }
 }
 
@@ -119,10 +101,13 @@ fn put(number: u32, at: usize, out: &mut [u32])
 // Reads a rule book.
 #[unsafe(no_mangle)]
 pub extern "C" fn tariff_read(text: &[u8], book: &mut [u32]) -> u64
-    ensures value { result ≡ reading_code (read_answer (read_text text.now) (length book.old)) }
+    ensures value { result ≡ done_code (read_answer (read_text text.now) (length book.old)) }
     ensures book_after { book.new ≡ numbers_after (read_text text.now) book.old }
 {
-    reading_code(book::read(text, book))
+    match book::read(text, book) {
+        Ok(_sizes) => 0,
+        Err(refusal) => refused(refusal),
+    }
 }
 
 // The required length of a session.
@@ -154,19 +139,19 @@ pub extern "C" fn tariff_decide(book: &[u32], session: &mut [u32], literal: u32)
 // Takes back the last k decisions.
 #[unsafe(no_mangle)]
 pub extern "C" fn tariff_backtrack(book: &[u32], session: &mut [u32], k: u32) -> u64
-    ensures value { result ≡ back_code (backtrack_answer book.now session.old k) }
+    ensures value { result ≡ done_code (backtrack_answer book.now session.old k) }
     ensures session_after { session.new ≡ backtrack_numbers book.now session.old k }
 {
-    back_code(session::backtrack(book, session, k))
+    done_code(session::backtrack(book, session, k))
 }
 
 // Fixes the first f decisions in force.
 #[unsafe(no_mangle)]
 pub extern "C" fn tariff_fix(book: &[u32], session: &mut [u32], f: u32) -> u64
-    ensures value { result ≡ back_code (fix_answer book.now session.old f) }
+    ensures value { result ≡ done_code (fix_answer book.now session.old f) }
     ensures session_after { session.new ≡ fix_numbers book.now session.old f }
 {
-    back_code(session::fix(book, session, f))
+    done_code(session::fix(book, session, f))
 }
 
 // How many decisions are fixed.
@@ -182,7 +167,10 @@ pub extern "C" fn tariff_fixed(book: &[u32], session: &[u32]) -> u64
 pub extern "C" fn tariff_lookup(book: &[u32], session: &[u32], variable: u32) -> u64
     ensures { result ≡ assigned_code (lookup_answer book.now session.now variable) }
 {
-    assigned_code(session::lookup(book, session, variable))
+    match session::lookup(book, session, variable) {
+        Ok(assigned) => level_code(assigned),
+        Err(refusal) => refused(refusal),
+    }
 }
 
 // Copies the trail's literals behind the first `before` to `out`: what fits.
@@ -206,19 +194,14 @@ pub extern "C" fn tariff_figures(book: &[u32], session: &[u32], out: &mut [u32])
     ensures out_after { out.new ≡ figures_after (figures_answer book.now session.now) out.old }
 {
     match session::figures(book, session) {
-        session::Shown::Of {
-            decisions,
-            backtracks,
-            trail,
-            conflict,
-        } => {
-            put(decisions, 0, out);
-            put(backtracks, 1, out);
-            put(trail, 2, out);
-            put(conflict, 3, out);
+        Ok(shown) => {
+            put(shown.decisions, 0, out);
+            put(shown.backtracks, 1, out);
+            put(shown.trail, 2, out);
+            put(shown.conflict, 3, out);
             4
         }
-        session::Shown::Refused(number) => refusal(number),
+        Err(refusal) => refused(refusal),
     }
 }
 
@@ -234,15 +217,15 @@ pub extern "C" fn tariff_checks(book: &[u32], session: &[u32], out: &mut [u32]) 
 // The sum of all checks, into `sum`.
 #[unsafe(no_mangle)]
 pub extern "C" fn tariff_total(book: &[u32], session: &[u32], sum: &mut u64) -> u64
-    ensures value { result ≡ sum_code (total_answer book.now session.now) }
+    ensures value { result ≡ done_code (total_answer book.now session.now) }
     ensures sum_after { sum.new ≡ sum_after (total_answer book.now session.now) sum.old }
 {
     match session::total(book, session) {
-        session::Sum::Checks(checks) => {
+        Ok(checks) => {
             *sum = checks;
             0
         }
-        session::Sum::Refused(number) => refusal(number),
+        Err(refusal) => refused(refusal),
     }
 }
 
@@ -257,7 +240,10 @@ pub extern "C" fn tariff_chapters(
     ensures value { result ≡ filing_code (chapter_answer book.now session.now chapters.now (length totals.old)) }
     ensures totals_after { totals.new ≡ chapter_numbers book.now session.now chapters.now totals.old }
 {
-    filing_code(chapters::chapter_totals(book, session, chapters, totals))
+    match chapters::chapter_totals(book, session, chapters, totals) {
+        Ok(written) => u64::from(written),
+        Err(refusal) => refused(refusal),
+    }
 }
 
 // Copies to `out`, as far as they fit, the session's length, W and how many lines of the form `b k` the script has; the quoted ceiling goes to `ceiling`.
@@ -273,19 +259,14 @@ pub extern "C" fn tariff_quote(
     ensures ceiling_after { ceiling.new ≡ ceiling_after (quote_answer book.now script.now) ceiling.old }
 {
     match quote::quote_script(book, script) {
-        quote::Quote::Of {
-            length,
-            worst,
-            back_lines,
-            ceiling: most,
-        } => {
-            put(length, 0, out);
-            put(worst, 1, out);
-            put(back_lines, 2, out);
-            *ceiling = most;
+        Ok(quote) => {
+            put(quote.length, 0, out);
+            put(quote.worst, 1, out);
+            put(quote.back_lines, 2, out);
+            *ceiling = quote.ceiling;
             3
         }
-        quote::Quote::Refused(number) => refusal(number),
+        Err(refusal) => refused(refusal),
     }
 }
 
@@ -311,14 +292,15 @@ pub extern "C" fn tariff_check_bands(table: &[u32], age: &mut u32) -> u64
     ensures age_after { age.new ≡ age_after (checked_table table.now) age.old }
 {
     match bands::check_bands(table) {
-        bands::Checked::Good => 0,
-        bands::Checked::Malformed => 3 * 4294967296,
-        bands::Checked::Fault {
-            number,
-            age: lowest,
-        } => {
-            *age = lowest;
-            refusal(number)
+        Ok(_) => 0,
+        Err(TableFault::Malformed) => 3 * 4294967296,
+        Err(TableFault::Gap { age: uncovered }) => {
+            *age = uncovered;
+            refused(Refusal::AgeGap)
+        }
+        Err(TableFault::Overlap { age: covered_twice }) => {
+            *age = covered_twice;
+            refused(Refusal::AgeOverlap)
         }
     }
 }
@@ -346,24 +328,24 @@ pub extern "C" fn tariff_price_for_age(
 // Writes a value as a field of packed decimal. Accepted: how many bytes.
 #[unsafe(no_mangle)]
 pub extern "C" fn tariff_write_field(value: i64, bytes: usize, out: &mut [u8]) -> u64
-    ensures value { result ≡ written_code (field_written value bytes (length out.old)) }
+    ensures value { result ≡ count_code (field_written value bytes (length out.old)) }
     ensures out_after { out.new ≡ field_after value bytes out.old }
 {
-    written_code(packed::write_field(value, bytes, out))
+    count_code(packed::write_field(value, bytes, out))
 }
 
 // Reads a field of packed decimal, into `value`. Accepted: 0.
 #[unsafe(no_mangle)]
 pub extern "C" fn tariff_read_field(field: &[u8], value: &mut i64) -> u64
-    ensures value { result ≡ field_code (field_answer field.now) }
+    ensures value { result ≡ done_code (field_answer field.now) }
     ensures value_after { value.new ≡ value_after (field_answer field.now) value.old }
 {
     match packed::read_field(field) {
-        packed::Field::Value(number) => {
+        Ok(number) => {
             *value = number;
             0
         }
-        packed::Field::Refused(number) => refusal(number),
+        Err(refusal) => refused(refusal),
     }
 }
 
@@ -376,10 +358,16 @@ pub extern "C" fn tariff_write_quote(
     open_lines: i64,
     out: &mut [u8],
 ) -> u64
-    ensures value { result ≡ written_code (record_written map base premium open_lines (length out.old)) }
+    ensures value { result ≡ count_code (record_written map base premium open_lines (length out.old)) }
     ensures out_after { out.new ≡ record_after map base premium open_lines out.old }
 {
-    written_code(packed::write_quote(map, base, premium, open_lines, out))
+    let record = QuoteRecord {
+        map,
+        base,
+        premium,
+        open_lines,
+    };
+    count_code(packed::write_quote(record, out))
 }
 
 // Reads a quote record, into `base`, `premium` and `open_lines`. Accepted: the map.
@@ -396,17 +384,12 @@ pub extern "C" fn tariff_read_quote(
     ensures open_lines_after { open_lines.new ≡ lines_after (record_answer quote.now) open_lines.old }
 {
     match packed::read_quote(quote) {
-        packed::QuoteRecord::Of {
-            map,
-            base: cents,
-            premium: amount,
-            open_lines: lines,
-        } => {
-            *base = cents;
-            *premium = amount;
-            *open_lines = lines;
-            map as u64
+        Ok(record) => {
+            *base = record.base;
+            *premium = record.premium;
+            *open_lines = record.open_lines;
+            u64::from(record.map)
         }
-        packed::QuoteRecord::Refused(number) => refusal(number),
+        Err(refusal) => refused(refusal),
     }
 }

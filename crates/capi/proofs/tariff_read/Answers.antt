@@ -1,6 +1,9 @@
-use mathlib.Core.Path.{ap, ◌∙◌}
-use Rattle.capi.specs.Codes.{reading_code}
+use mathlib.Core.Path.{ap, sym, ◌∙◌}
+use Rattle.capi.specs.Codes.{done_code}
 use Rattle.capi.proofs.tariff_read.Goals as goal
 
-pub returns : goal.returns
-returns c = record { value = c.reading_code.ensures ∙ ap reading_code c.read.ensures.answer; book_after = c.read.ensures.numbers }
+pub returns-in-Ok : goal.returns-in-Ok
+returns-in-Ok c = record { value = ap done_code (sym c.in-Ok.is ∙ c.read.ensures.answer); book_after = c.read.ensures.numbers }
+
+pub returns-in-Err : goal.returns-in-Err
+returns-in-Err c = record { value = c.refused.ensures ∙ ap done_code (sym c.in-Err.is ∙ c.read.ensures.answer); book_after = c.read.ensures.numbers }

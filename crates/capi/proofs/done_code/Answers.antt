@@ -1,0 +1,9 @@
+use mathlib.Core.Path.{ap, sym, ◌∙◌}
+use Rattle.capi.specs.Codes.{done_code}
+use Rattle.capi.proofs.done_code.Goals as goal
+
+pub returns-in-Ok : goal.returns-in-Ok
+returns-in-Ok c = sym (ap done_code c.in-Ok.is)
+
+pub returns-in-Err : goal.returns-in-Err
+returns-in-Err c = c.refused.ensures ∙ sym (ap done_code c.in-Err.is)
