@@ -8,7 +8,7 @@ mod steps;
 ghost use Rattle.std.specs.Prelude.{◌≡◌, ◌≤◌, length};
 
 use std::io::Read;
-use trials::messages;
+use trials::messages::{Message, say};
 
 // The bytes that are read at once; the trials must be fewer.
 const INPUT: usize = 1_048_576;
@@ -39,8 +39,8 @@ fn main(rt: HostRuntime) {
     let mut space = zeros();
     let n = read_full(&mut rt.reader(), &mut space);
     if n < INPUT {
-        lines::run(&rt, &space[0..n]);
+        lines::run(&rt, &space[..n]);
     } else {
-        messages::print(&rt, messages::CUT);
+        say(&rt, Message::TooLong);
     }
 }
