@@ -8,7 +8,7 @@ use trials::space::{LENT, LENT_TOTAL, untouched};
 // How many literals of the trail are to be listed behind an answer, or the number of the refusal.
 pub type Listed = Result<u32, u32>;
 
-// The refusals that no call gives here.
+// The refusal of numbers that are no book, and of a line that has no meaning.
 pub(crate) const NO_BOOK: u32 = 11;
 
 pub(crate) const NO_LINE: u32 = 18;

@@ -9,7 +9,7 @@ use crate::space::{LENT, damage, untouched};
 use book::Reading;
 use book::limits::MAX_BOOK;
 
-// What a reading answers. Answers how many numbers the book has, None at a refusal.
+// Says what a reading answers. Gives how many numbers the book has, None at a refusal.
 fn answered(rt: &impl Print, reading: Reading) -> Option<usize> {
     match reading {
         Reading::Book {
