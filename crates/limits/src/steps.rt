@@ -2,10 +2,9 @@
 use trial_calls::call;
 use trial_calls::reads::list_last;
 use trials::damage;
-use trials::messages::{Message, say};
 use trials::names::{Call, Step};
 use trials::rows::{number, part};
-use trials::space::{SPACE, compare};
+use trials::space::{SPACE, compare, first};
 
 // A call on the numbers that are lent, with the literals that it implied; a refusal must leave all numbers alone.
 fn call_on(
@@ -17,8 +16,7 @@ fn call_on(
     called: Option<Call>,
 ) {
     let kept = *session;
-    let Some(lent) = session.get_mut(..room) else {
-        say(rt, Message::TooLong);
+    let Some(lent) = first(rt, session, room) else {
         return;
     };
     match call(rt, book, lent, step, called) {

@@ -4,9 +4,8 @@ use crate::answers::Listed;
 use book::limits::MAX_CLAUSES;
 use chapters::chapter_totals;
 use trials::lists::numbers;
-use trials::messages::{Message, say};
 use trials::rows::behind;
-use trials::space::LENT_TOTAL;
+use trials::space::{LENT_TOTAL, first};
 
 // The chapters that a step may have: a few more than the clauses of the largest book.
 const MOST: usize = MAX_CLAUSES + 4;
@@ -22,8 +21,7 @@ pub(crate) fn totals(
     let mut chapters = [0u32; MOST];
     let so_many = numbers(rt, behind(step), &mut chapters);
     let mut space = [LENT_TOTAL; 64];
-    let Some(totals) = space.get_mut(..n) else {
-        say(rt, Message::TooLong);
+    let Some(totals) = first(rt, &mut space, n) else {
         return Ok(0);
     };
     let answer = chapter_totals(book, session, &chapters[..so_many], totals);

@@ -3,18 +3,17 @@ use crate::answers;
 use crate::answers::Listed;
 use book::limits::MAX_VARIABLES;
 use session::Count;
-use trials::messages::{Message, Signed, say};
+use trials::messages::Signed;
 use trials::names::Read;
 use trials::readings::sizes;
-use trials::space::LENT;
+use trials::space::{LENT, first};
 
 // What a call copies to so many numbers, with the word for it.
 fn copy_to<F: FnOnce(&mut [u32]) -> Count>(rt: &impl Print, word: &str, n: usize, copy: F) -> Listed
     requires { F.IsAlwaysCallable copy }
 {
     let mut space = [LENT; 64];
-    let Some(out) = space.get_mut(..n) else {
-        say(rt, Message::TooLong);
+    let Some(out) = first(rt, &mut space, n) else {
         return Ok(0);
     };
     let answer = copy(out);

@@ -5,7 +5,7 @@ use crate::build;
 use crate::lists::numbers;
 use crate::messages::{Message, say, say_each};
 use crate::rows::{number, part};
-use crate::space::{LENT, damage, untouched};
+use crate::space::{LENT, damage, first, untouched};
 use book::Reading;
 use book::limits::MAX_BOOK;
 
@@ -59,8 +59,7 @@ fn judge_form(rt: &impl Print, buffer: &[u32], written: Option<usize>) {
 // Reads into so many lent numbers. The others must not change. What they hold is said where that is asked.
 pub fn into(rt: &impl Print, base: &[u8], row: &[u8], room: usize, listed: bool) {
     let mut space = [LENT; MAX_BOOK];
-    let Some(lent) = space.get_mut(..room) else {
-        say(rt, Message::TooLong);
+    let Some(lent) = first(rt, &mut space, room) else {
         return;
     };
     let written = answered(rt, read(rt, base, row, lent));

@@ -11,6 +11,15 @@ pub const LENT: u32 = u32::MAX;
 // What every lent total of 64 bits holds before a trial.
 pub const LENT_TOTAL: u64 = u64::MAX;
 
+// The first numbers or totals of a space, to be lent; that it has not so many is said.
+pub fn first<'a, T>(rt: &impl Print, space: &'a mut [T], n: usize) -> Option<&'a mut [T]> {
+    let lent = space.get_mut(..n);
+    if lent.is_none() {
+        say(rt, Message::TooLong);
+    }
+    lent
+}
+
 // Stores a number; that there is no place for it is said.
 pub(crate) fn damage(rt: &impl Print, place: Option<&mut u32>, number: u32) {
     match place {
