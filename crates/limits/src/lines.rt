@@ -1,47 +1,41 @@
 // The lines of standard input: comments, bases, and trials by their kind.
 use crate::sessions;
 use book::limits::MAX_BOOK;
-use trials::build::byte_at;
-use trials::names::name;
-use trials::rows::{find, number, wide};
-use trials::{messages, names, readings};
+use trials::messages::{Message, say};
+use trials::names::Kind;
+use trials::readings;
+use trials::rows::{number, part};
 
 // A trial says its label and what came.
-fn trial(rt: &impl Print, base: &[u8], row: &[u8], kind: usize) {
-    messages::print_part(rt, row, 1);
-    messages::print(rt, messages::FIRST);
+fn trial(rt: &impl Print, base: &[u8], row: &[u8], kind: Option<Kind>) {
+    let _ = rt.write_all(part(row, b'|', 1));
+    let _ = print!(rt; ": ");
     match kind {
-        names::TEXT => readings::into(rt, base, row, MAX_BOOK, false),
-        names::ROOM => readings::into(rt, base, row, wide(number(row, b'|', 3)), true),
-        names::SESSION => sessions::session(rt, row, &row[0..0]),
-        names::BASED => sessions::session(rt, base, row),
-        _ => messages::print(rt, messages::NO_NAME),
+        Some(Kind::Text) => readings::into(rt, base, row, MAX_BOOK, false),
+        Some(Kind::Room) => readings::into(rt, base, row, number(row, b'|', 3) as usize, true),
+        Some(Kind::Session) => sessions::session(rt, row, &[]),
+        Some(Kind::Based) => sessions::session(rt, base, row),
+        Some(Kind::Base) | None => say(rt, Message::NoSuchName),
     }
-    messages::print(rt, messages::LINE_END);
+    let _ = println!(rt;);
 }
 
-// Empty lines and comments print nothing.
-fn line(rt: &impl Print, base: &[u8], row: &[u8], kind: usize) {
-    if byte_at(row, 0) > b'#' {
-        trial(rt, base, row, kind);
-    }
+// An empty line and a comment are no trials.
+fn is_trial(row: &[u8]) -> bool {
+    row.first().is_some_and(|first| *first > b'#')
 }
 
 // Every line of a text. A base stands for the trials behind it, up to the next base.
 pub fn run(rt: &impl Print, text: &[u8]) {
-    let mut from = 0;
-    let mut to = 0;
-    let mut at = 0;
-    while at < text.len() {
-        let start = at;
-        let end = find(text, start, b'\n');
-        let kind = name(&text[start..end], b'|', 0);
-        at = end + 1;
-        if kind == names::BASE {
-            from = start;
-            to = end;
-        } else {
-            line(rt, &text[from..to], &text[start..end], kind);
+    let mut base: &[u8] = &[];
+    for row in text.split(|b| *b == b'\n') {
+        match Kind::of(part(row, b'|', 0)) {
+            Some(Kind::Base) => base = row,
+            kind => {
+                if is_trial(row) {
+                    trial(rt, base, row, kind);
+                }
+            }
         }
     }
 }

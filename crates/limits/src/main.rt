@@ -5,20 +5,13 @@ mod lines;
 mod sessions;
 mod steps;
 
-ghost use Rattle.std.specs.Prelude.{◌≡◌, ◌≤◌, length};
+ghost use Rattle.std.specs.Prelude.{◌<◌, ◌≤◌, ◌^◌, length};
 
 use std::io::Read;
-use trials::messages;
+use trials::messages::{Message, say};
 
 // The bytes that are read at once; the trials must be fewer.
 const INPUT: usize = 1_048_576;
-
-// So many zeros. The `ensures` gives only the length, which lending the array as a slice needs.
-fn zeros() -> [u8; INPUT]
-    ensures { 1048576 ≡ length result }
-{
-    [0; INPUT]
-}
 
 // Reads until the space is full, the input ends or a read fails, and answers how many bytes there are.
 fn read_full(input: &mut impl Read, space: &mut [u8]) -> usize
@@ -34,13 +27,19 @@ fn read_full(input: &mut impl Read, space: &mut [u8]) -> usize
     at
 }
 
-// Reads all trials at once. Where they fill the space the last line may be cut, so nothing is tried.
-fn main(rt: HostRuntime) {
-    let mut space = zeros();
+// Reads all trials at once into a space of so many bytes. Where they fill it the last line may be cut, so nothing is tried.
+fn run<const N: usize>(rt: &(impl Print + Input))
+    requires { N < 2 ^ 63 }
+{
+    let mut space = [0u8; N];
     let n = read_full(&mut rt.reader(), &mut space);
-    if n < INPUT {
-        lines::run(&rt, &space[0..n]);
+    if n < N {
+        lines::run(rt, &space[..n]);
     } else {
-        messages::print(&rt, messages::CUT);
+        say(rt, Message::TooLong);
     }
+}
+
+fn main(rt: HostRuntime) {
+    run::<INPUT>(&rt);
 }

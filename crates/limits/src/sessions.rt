@@ -3,35 +3,25 @@ use crate::steps::take;
 use book::limits::MAX_BOOK;
 use trials::damage::required_length;
 use trials::readings::{book_of, damage_field};
-use trials::rows::{find, part};
+use trials::rows::part;
 use trials::space::{LENT, SPACE, untouched};
 
-// The steps of a list, parted by `,`.
+// The steps of a list, parted by `,`; the last has none behind it.
 fn take_all(rt: &impl Print, book: &[u32], session: &mut [u32; SPACE], list: &[u8]) {
     let mut room = SPACE;
-    let mut at = 0;
-    while at < list.len() {
-        let end = find(list, at, b',');
-        room = take(rt, book, session, room, &list[at..end], end == list.len());
-        at = end + 1;
+    for step in list.split_inclusive(|b| *b == b',') {
+        room = match step.strip_suffix(b",") {
+            Some(step) => take(rt, book, session, room, step, false),
+            None => take(rt, book, session, room, step, true),
+        };
     }
-}
-
-// The steps of field k of a row.
-fn take_field(rt: &impl Print, book: &[u32], session: &mut [u32; SPACE], row: &[u8], k: u32) {
-    let span = part(row, b'|', k);
-    let from = span.from;
-    let to = span.to;
-    take_all(rt, book, session, &row[from..to]);
 }
 
 // The steps of fields 2, 5 and 8 of a row; the two fields behind each change a book number.
 fn take_fields(rt: &impl Print, book: &mut [u32], session: &mut [u32; SPACE], row: &[u8]) {
-    let mut k = 2;
-    while k < 9 {
-        take_field(rt, book, session, row, k);
-        damage_field(rt, book, row, k + 1, k + 2);
-        k += 3;
+    for (steps, place, number) in [(2, 3, 4), (5, 6, 7), (8, 9, 10)] {
+        take_all(rt, book, session, part(row, b'|', steps));
+        damage_field(rt, book, row, place, number);
     }
 }
 
@@ -44,9 +34,9 @@ fn on_book(
     row: &[u8],
 ) {
     let length = required_length(book);
-    take_field(rt, book, session, source, 3);
+    take_all(rt, book, session, part(source, b'|', 3));
     take_fields(rt, book, session, row);
-    untouched(rt, session, length);
+    untouched(rt, session, length, &LENT);
 }
 
 // A trial on the book of one row by the steps of that row and of another.
@@ -54,5 +44,5 @@ pub fn session(rt: &impl Print, source: &[u8], row: &[u8]) {
     let mut space = [0u32; MAX_BOOK];
     let mut session = [LENT; SPACE];
     let n = book_of(rt, source, &mut space);
-    on_book(rt, &mut space[0..n], &mut session, source, row);
+    on_book(rt, &mut space[..n], &mut session, source, row);
 }

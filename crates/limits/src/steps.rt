@@ -1,44 +1,30 @@
 // Steps of a trial on a session: a name, and numbers behind it, parted by blanks.
-use trial_calls::answers::WAS_REFUSED;
 use trial_calls::call;
 use trial_calls::reads::list_last;
-use trials::names::name;
-use trials::rows::{number, wide};
-use trials::space::{SPACE, compare};
-use trials::{damage, messages, names};
+use trials::damage;
+use trials::names::{Call, Step};
+use trials::rows::{number, part};
+use trials::space::{SPACE, compare, first};
 
-// A call on the numbers that are lent, with the literals that it implied.
+// A call on the numbers that are lent, with the literals that it implied; a refusal must leave all numbers alone.
 fn call_on(
-    rt: &impl Print,
-    book: &[u32],
-    session: &mut [u32],
-    room: usize,
-    step: &[u8],
-    called: usize,
-) -> u32 {
-    let a = number(step, b' ', 1);
-    let b = number(step, b' ', 2);
-    if room <= session.len() {
-        let listed = call(rt, book, &mut session[0..room], step, called, a, b);
-        list_last(rt, book, &session[0..room], wide(listed));
-        return listed;
-    }
-    messages::print(rt, messages::CUT);
-    0
-}
-
-// The same; a refusal must leave all numbers alone.
-fn call_kept(
     rt: &impl Print,
     book: &[u32],
     session: &mut [u32; SPACE],
     room: usize,
     step: &[u8],
-    called: usize,
+    called: Option<Call>,
 ) {
     let kept = *session;
-    if call_on(rt, book, session, room, step, called) == WAS_REFUSED {
-        compare(rt, session, &kept, 0);
+    let Some(lent) = first(rt, session, room) else {
+        return;
+    };
+    match call(rt, book, lent, step, called) {
+        Ok(listed) => list_last(rt, book, lent, listed as usize),
+        Err(refusal) => {
+            let _ = print!(rt; "refused {refusal}");
+            compare(rt, session, &kept);
+        }
     }
 }
 
@@ -51,16 +37,20 @@ pub fn take(
     step: &[u8],
     last: bool,
 ) -> usize {
-    let called = name(step, b' ', 0);
-    match called {
-        names::WRITE => {
+    let n = number(step, b' ', 1) as usize;
+    match Step::of(part(step, b' ', 0)) {
+        Step::Write => {
             damage::write(rt, book, session, step);
             room
         }
-        names::GIVE | names::SHORT | names::SPARE => { damage::room(book, step, called) }
-        _ => {
-            call_kept(rt, book, session, room, step, called);
-            messages::part_next(rt, last);
+        Step::Give => n,
+        Step::Short => damage::required_length(book).saturating_sub(n),
+        Step::Spare => damage::required_length(book) + n,
+        Step::Call(called) => {
+            call_on(rt, book, session, room, step, called);
+            if !last {
+                let _ = print!(rt; " / ");
+            }
             room
         }
     }

@@ -1,4 +1,4 @@
-// The calls of a trial by their names, and what they answer, for `limits`. Each function answers how many literals of the trail are to be listed behind.
+// The calls of a trial, and what they answer, for `limits`.
 #![tactic(auto)]
 
 pub mod answers;
@@ -6,85 +6,90 @@ mod filing;
 mod quoting;
 pub mod reads;
 
+use crate::answers::{Listed, NO_LINE};
 use crate::reads::read;
 use script::Line;
+use session::Answer;
 use trials::build::decode;
 use trials::lists::numbers;
-use trials::rows::{behind, wide};
-use trials::{messages, names};
+use trials::messages::{Message, say};
+use trials::names::Call;
+use trials::rows::{behind, number};
 
-// Makes the calls of the list in a step; the answer is said where that is asked.
-fn replay(rt: &impl Print, book: &[u32], session: &mut [u32], step: &[u8], said: bool) -> u32 {
+// Makes the calls of the list in a step.
+fn replay(rt: &impl Print, book: &[u32], session: &mut [u32], step: &[u8]) -> Answer {
     let mut calls = [0u32; 64];
     let n = numbers(rt, step, &mut calls);
-    answers::replayed(rt, said, session::replay(book, &calls[0..n], session))
+    session::replay(book, &calls[..n], session)
 }
 
-fn decide(rt: &impl Print, book: &[u32], session: &mut [u32], literal: u32) -> u32 {
-    answers::propagated(rt, literal, session::decide(book, session, literal))
+fn decide(rt: &impl Print, book: &[u32], session: &mut [u32], literal: u32) -> Listed {
+    answers::propagated(rt, Some(literal), session::decide(book, session, literal))
 }
 
-fn backtrack(rt: &impl Print, book: &[u32], session: &mut [u32], k: u32) -> u32 {
-    answers::done(
-        rt,
-        messages::BACKTRACK,
-        k,
-        session::backtrack(book, session, k),
-    )
-}
-
-fn fix(rt: &impl Print, book: &[u32], session: &mut [u32], f: u32) -> u32 {
-    answers::done(rt, messages::FIXING, f, session::fix(book, session, f))
+fn backtrack(rt: &impl Print, book: &[u32], session: &mut [u32], k: u32) -> Listed {
+    answers::done(rt, "back", k, session::backtrack(book, session, k))
 }
 
 // What the line of a script asks; it stands behind the first blank of a step.
 fn parsed(rt: &impl Print, step: &[u8]) -> Line {
     let mut bytes = [0u8; 256];
-    let from = behind(step);
-    let n = decode(rt, &mut bytes, &step[from..]);
-    script::parse_line(&bytes[0..n])
+    let n = decode(rt, &mut bytes, behind(step));
+    script::parse_line(&bytes[..n])
 }
 
-fn line(rt: &impl Print, book: &[u32], session: &mut [u32], asked: Line) -> u32 {
+fn line(rt: &impl Print, book: &[u32], session: &mut [u32], asked: Line) -> Listed {
     match asked {
-        Line::Malformed => answers::refused(rt, 18),
+        Line::Malformed => Err(NO_LINE),
         Line::Choose(literal) => decide(rt, book, session, literal),
         Line::Back(k) => backtrack(rt, book, session, k),
     }
 }
 
 // Decides every second literal from one on, so many times, and says the figures.
-fn decide_many(rt: &impl Print, book: &[u32], session: &mut [u32], first: u32, times: u32) -> u32 {
+fn decide_many(
+    rt: &impl Print,
+    book: &[u32],
+    session: &mut [u32],
+    first: u32,
+    times: u32,
+) -> Listed {
     let mut literal = first;
-    let mut left = times;
-    while left > 0 {
-        session::decide(book, session, literal);
-        literal = std::num::wrapping_add_u32(literal, 2);
-        left -= 1;
+    for _ in 0..times {
+        let _ = session::decide(book, session, literal);
+        literal = literal.wrapping_add(2);
     }
     answers::figures(rt, session::figures(book, session))
 }
 
-// The call of a step by its name.
+// The call of a step, None where it has no such name.
 pub fn call(
     rt: &impl Print,
     book: &[u32],
     session: &mut [u32],
     step: &[u8],
-    called: usize,
-    a: u32,
-    b: u32,
-) -> u32 {
+    called: Option<Call>,
+) -> Listed {
+    let Some(called) = called else {
+        say(rt, Message::NoSuchName);
+        return Ok(0);
+    };
+    let a = number(step, b' ', 1);
+    let b = number(step, b' ', 2);
     match called {
-        names::OPEN => answers::propagated(rt, 0, session::open(book, session)),
-        names::DECIDE => decide(rt, book, session, a),
-        names::BACKTRACK => backtrack(rt, book, session, a),
-        names::FIX => fix(rt, book, session, a),
-        names::MANY => decide_many(rt, book, session, a, b),
-        names::BEGIN | names::REPLAY => replay(rt, book, session, step, called == names::REPLAY),
-        names::LINE => line(rt, book, session, parsed(rt, step)),
-        names::CHAPTERS => filing::totals(rt, book, session, step, wide(a)),
-        names::QUOTE => quoting::quoted(rt, book, step),
-        _ => read(rt, book, session, called, a, b),
+        Call::Open => answers::propagated(rt, None, session::open(book, session)),
+        Call::Decide => decide(rt, book, session, a),
+        Call::Backtrack => backtrack(rt, book, session, a),
+        Call::Fix => answers::done(rt, "fixed", a, session::fix(book, session, a)),
+        Call::Many => decide_many(rt, book, session, a, b),
+        Call::Begin => {
+            let _ = replay(rt, book, session, step);
+            Ok(0)
+        }
+        Call::Replay => answers::propagated(rt, None, replay(rt, book, session, step)),
+        Call::Line => line(rt, book, session, parsed(rt, step)),
+        Call::Chapters => filing::totals(rt, book, session, step, a as usize),
+        Call::Quote => quoting::quoted(rt, book, step),
+        Call::Read(called) => read(rt, book, session, called, a, b),
     }
 }

@@ -1,87 +1,69 @@
 // The calls of a session that only read, and the list of the last literals of its trail.
 use crate::answers;
+use crate::answers::Listed;
 use book::limits::MAX_VARIABLES;
+use session::Count;
+use trials::messages::Signed;
+use trials::names::Read;
 use trials::readings::sizes;
-use trials::rows::wide;
-use trials::space::LENT;
-use trials::{messages, names};
+use trials::space::{LENT, first};
 
-// Copies the checks of each clause, or the trail behind a place.
-fn copy(
-    rt: &impl Print,
-    book: &[u32],
-    session: &[u32],
-    step: usize,
-    before: u32,
-    out: &mut [u32],
-) -> u32 {
-    if step == names::EACH {
-        return answers::copied(
-            rt,
-            messages::CHECKS,
-            session::checks(book, session, out),
-            out,
-        );
-    }
-    answers::copied(
-        rt,
-        messages::COPIED,
-        session::trail_from(book, session, before, out),
-        out,
-    )
-}
-
-// A copy to so many numbers.
-fn copy_to(
-    rt: &impl Print,
-    book: &[u32],
-    session: &[u32],
-    step: usize,
-    before: u32,
-    n: usize,
-) -> u32 {
+// What a call copies to so many numbers, with the word for it.
+fn copy_to<F: FnOnce(&mut [u32]) -> Count>(rt: &impl Print, word: &str, n: usize, copy: F) -> Listed
+    requires { F.IsAlwaysCallable copy }
+{
     let mut space = [LENT; 64];
-    if n <= 64 {
-        return copy(rt, book, session, step, before, &mut space[0..n]);
-    }
-    messages::print(rt, messages::CUT);
-    0
+    let Some(out) = first(rt, &mut space, n) else {
+        return Ok(0);
+    };
+    let answer = copy(out);
+    answers::copied(rt, word, answer, out)
 }
 
-// The call of a step by its name. Answers 0, or that it was refused.
+// The call that reads, with its numbers.
 pub(crate) fn read(
     rt: &impl Print,
     book: &[u32],
     session: &[u32],
-    step: usize,
+    called: Read,
     a: u32,
     b: u32,
-) -> u32 {
-    match step {
-        names::LOOKUP => answers::assigned(rt, a, session::lookup(book, session, a)),
-        names::FIGURES => answers::figures(rt, session::figures(book, session)),
-        names::FIXED => answers::count(rt, messages::FIXED, session::fixed(book, session)),
-        names::TOTAL => answers::sum(rt, session::total(book, session)),
-        names::REQUIRED => answers::count(rt, messages::REQUIRED, session::required_length(book)),
-        names::EACH => copy_to(rt, book, session, step, 0, wide(a)),
-        names::TRAIL => copy_to(rt, book, session, step, a, wide(b)),
-        names::FORM => answers::form(rt, book::well_formed(book)),
-        names::SIZES => sizes(rt, book),
-        _ => {
-            messages::print(rt, messages::NO_NAME);
-            0
+) -> Listed {
+    match called {
+        Read::Lookup => answers::assigned(rt, a, session::lookup(book, session, a)),
+        Read::Figures => answers::figures(rt, session::figures(book, session)),
+        Read::Fixed => answers::count(rt, "choices fixed", session::fixed(book, session)),
+        Read::Total => answers::sum(rt, session::total(book, session)),
+        Read::Required => answers::count(rt, "need", session::required_length(book)),
+        Read::Each => copy_to(rt, "rules", a as usize, |out| {
+            session::checks(book, session, out)
+        }),
+        Read::Trail => copy_to(rt, "literals", b as usize, |out| {
+            session::trail_from(book, session, a, out)
+        }),
+        Read::Form => answers::form(rt, book::well_formed(book)),
+        Read::Sizes => {
+            sizes(rt, book);
+            Ok(0)
         }
     }
 }
 
+// So many last literals of the trail, which is copied; None where it is not told, or has fewer.
+fn last<'a>(
+    book: &[u32],
+    session: &[u32],
+    count: usize,
+    trail: &'a mut [u32; MAX_VARIABLES],
+) -> Option<&'a [u32]> {
+    let length = answers::length(session::trail_from(book, session, 0, trail))?;
+    trail.get(length.checked_sub(count)?..length)
+}
+
 // Lists the last literals of the trail.
 pub fn list_last(rt: &impl Print, book: &[u32], session: &[u32], count: usize) {
-    let mut literals = [0u32; MAX_VARIABLES];
-    let to = answers::length(session::trail_from(book, session, 0, &mut literals));
-    if to <= MAX_VARIABLES {
-        if count <= to {
-            let from = to - count;
-            messages::say_literals(rt, &literals[from..to]);
-        }
+    let mut trail = [0u32; MAX_VARIABLES];
+    for literal in last(book, session, count, &mut trail).unwrap_or(&[]) {
+        let _ = print!(rt; " {}", Signed(*literal));
     }
 }

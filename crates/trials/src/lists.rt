@@ -1,55 +1,40 @@
 // Lists of numbers: a head word, then words `x`, or `x:s:n` for n numbers from x on, s apart.
-ghost use Rattle.std.specs.Prelude.{◌≤◌, length};
+ghost use Rattle.std.specs.Prelude.{◌≤◌, IfSome, length};
 
-use crate::messages::fitting;
-use crate::rows::{behind, find, number};
-use crate::space::store;
+use crate::build::fitting;
+use crate::rows::{behind, number};
 
-// How often a word stands for a number: once where it does not say.
-fn times(said: u32) -> u32 {
-    if said == 0 {
-        return 1;
-    }
-    said
-}
-
-// Stores the numbers of a word from a place on; answers the place behind them, and at most one behind the end where they do not fit.
-fn fill(out: &mut [u32], at: usize, word: &[u8]) -> usize {
+// Stores the numbers of a word from a place on, one where it does not say how many. Answers the place behind them, None where they do not fit.
+fn fill(out: &mut [u32], at: usize, word: &[u8]) -> Option<usize>
+    requires { at ≤ length out.old }
+    ensures { IfSome result (λ n. n ≤ length out.old) }
+{
     let step = number(word, b':', 1);
     let mut value = number(word, b':', 0);
-    let mut left = times(number(word, b':', 2));
-    let mut n = at;
-    while left > 0 {
-        if n > out.len() {
-            return n;
-        }
-        store(out, n, value);
-        value = std::num::wrapping_add_u32(value, step);
-        n += 1;
-        left -= 1;
+    let mut to = at;
+    for _ in 0..number(word, b':', 2).max(1) {
+        *out.get_mut(to)? = value;
+        value = value.wrapping_add(step);
+        to += 1;
     }
-    n
+    Some(to)
 }
 
-// The numbers of the words from a place on; answers as above.
-fn fill_all(out: &mut [u32], list: &[u8], first: usize) -> usize
-    requires { first ≤ length list.now }
+// Stores the numbers of all words, each with the blank behind it, which is no digit. Answers as above.
+fn fill_all(out: &mut [u32], words: &[u8]) -> Option<usize>
+    ensures { IfSome result (λ n. n ≤ length out.old) }
 {
     let mut n = 0;
-    let mut at = first;
-    while at < list.len() {
-        let end = find(list, at, b' ');
-        n = fill(out, n, &list[at..end]);
-        at = end + 1;
+    for word in words.split_inclusive(|b| *b == b' ') {
+        n = fill(out, n, word)?;
     }
-    n
+    Some(n)
 }
 
 // The numbers behind the head word; answers how many they are.
 pub fn numbers(rt: &impl Print, list: &[u8], out: &mut [u32]) -> usize
     ensures { result ≤ length out.old }
 {
-    let first = behind(list);
-    let n = fill_all(out, list, first);
+    let n = fill_all(out, behind(list));
     fitting(rt, n, out.len())
 }

@@ -1,106 +1,143 @@
-// The names in rows: kinds of trials, steps, and parts of a session, each under a number.
-use crate::rows::{find, part};
+// The names in rows: kinds of trials, steps, and parts of a session.
 
-pub const TEXT: usize = 0;
-
-pub const ROOM: usize = 1;
-
-pub const SESSION: usize = 2;
-
-pub const BASED: usize = 3;
-
-pub const BASE: usize = 4;
-
-pub const NUMBERS: usize = 5;
-
-pub const WRITE: usize = 6;
-
-pub const GIVE: usize = 7;
-
-pub const SHORT: usize = 8;
-
-pub const SPARE: usize = 9;
-
-pub const BEGIN: usize = 10;
-
-pub const OPEN: usize = 11;
-
-pub const DECIDE: usize = 12;
-
-pub const BACKTRACK: usize = 13;
-
-pub const FIX: usize = 14;
-
-pub const MANY: usize = 15;
-
-pub const REPLAY: usize = 16;
-
-pub const LINE: usize = 17;
-
-pub const LOOKUP: usize = 18;
-
-pub const FIGURES: usize = 19;
-
-pub const FIXED: usize = 20;
-
-pub const TOTAL: usize = 21;
-
-pub const REQUIRED: usize = 22;
-
-pub const EACH: usize = 23;
-
-pub const CHAPTERS: usize = 24;
-
-pub const QUOTE: usize = 25;
-
-pub const FORM: usize = 26;
-
-pub const SIZES: usize = 27;
-
-// The parts of a session in their order, and what is behind the last.
-pub const HEADER: usize = 28;
-
-pub const TRAIL: usize = 29;
-
-pub const LEVELS: usize = 30;
-
-pub const VALUES: usize = 31;
-
-pub const WATCHES: usize = 32;
-
-pub const POINTERS: usize = 33;
-
-pub const CHECKS: usize = 34;
-
-pub const HEADS: usize = 35;
-
-pub const LINKS: usize = 36;
-
-pub const BEHIND: usize = 37;
-
-// The place of a word among names that are parted by blanks, from 0; how many they are where it is none of them.
-fn place_among(names: &[u8], word: &[u8]) -> usize {
-    let mut at = 0;
-    let mut passed = 0;
-    while at < names.len() {
-        let end = find(names, at, b' ');
-        if &names[at..end] == word {
-            return passed;
-        }
-        passed += 1;
-        at = end + 1;
-    }
-    passed
+// What a row is: a trial of one of four kinds, or a base for the trials behind it.
+#[derive(Clone, Copy, Debug, PartialEq, Eq)]
+pub enum Kind {
+    Text,
+    Room,
+    Session,
+    Based,
+    Base,
 }
 
-// The number of the name that is part k of a row; the names stand here in the order of their numbers.
-pub fn name(row: &[u8], byte: u8, k: u32) -> usize {
-    let span = part(row, byte, k);
-    let from = span.from;
-    let to = span.to;
-    place_among(
-        b"text room session based base numbers write give short spare begin open choose back fix many play line lookup figures \
-        fixed sum need each chapters quote form sizes header trail levels values watches pointers checks heads links",
-        &row[from..to],
-    )
+impl Kind {
+    pub fn of(word: &[u8]) -> Option<Kind> {
+        match word {
+            b"text" => Some(Kind::Text),
+            b"room" => Some(Kind::Room),
+            b"session" => Some(Kind::Session),
+            b"based" => Some(Kind::Based),
+            b"base" => Some(Kind::Base),
+            _ => None,
+        }
+    }
+}
+
+// A step of a trial on a session: a number is changed, or how many numbers the next calls are lent, or a call is made.
+#[derive(Clone, Copy, Debug, PartialEq, Eq)]
+pub enum Step {
+    Write,
+    Give,
+    Short,
+    Spare,
+    // None where no step has the name.
+    Call(Option<Call>),
+}
+
+impl Step {
+    pub fn of(word: &[u8]) -> Step {
+        match word {
+            b"write" => Step::Write,
+            b"give" => Step::Give,
+            b"short" => Step::Short,
+            b"spare" => Step::Spare,
+            _ => Step::Call(Call::of(word)),
+        }
+    }
+}
+
+// The calls of a trial.
+#[derive(Clone, Copy, Debug, PartialEq, Eq)]
+pub enum Call {
+    Begin,
+    Open,
+    Decide,
+    Backtrack,
+    Fix,
+    Many,
+    Replay,
+    Line,
+    Chapters,
+    Quote,
+    Read(Read),
+}
+
+impl Call {
+    fn of(word: &[u8]) -> Option<Call> {
+        match word {
+            b"begin" => Some(Call::Begin),
+            b"open" => Some(Call::Open),
+            b"choose" => Some(Call::Decide),
+            b"back" => Some(Call::Backtrack),
+            b"fix" => Some(Call::Fix),
+            b"many" => Some(Call::Many),
+            b"play" => Some(Call::Replay),
+            b"line" => Some(Call::Line),
+            b"chapters" => Some(Call::Chapters),
+            b"quote" => Some(Call::Quote),
+            _ => Some(Call::Read(Read::of(word)?)),
+        }
+    }
+}
+
+// The calls that only read a session or a book.
+#[derive(Clone, Copy, Debug, PartialEq, Eq)]
+pub enum Read {
+    Lookup,
+    Figures,
+    Fixed,
+    Total,
+    Required,
+    Each,
+    Trail,
+    Form,
+    Sizes,
+}
+
+impl Read {
+    fn of(word: &[u8]) -> Option<Read> {
+        match word {
+            b"lookup" => Some(Read::Lookup),
+            b"figures" => Some(Read::Figures),
+            b"fixed" => Some(Read::Fixed),
+            b"sum" => Some(Read::Total),
+            b"need" => Some(Read::Required),
+            b"each" => Some(Read::Each),
+            b"trail" => Some(Read::Trail),
+            b"form" => Some(Read::Form),
+            b"sizes" => Some(Read::Sizes),
+            _ => None,
+        }
+    }
+}
+
+// The parts of a session, in their order.
+#[derive(Clone, Copy, Debug, PartialEq, Eq)]
+pub enum Part {
+    Header,
+    Trail,
+    Levels,
+    Values,
+    Watches,
+    Pointers,
+    Checks,
+    Heads,
+    Links,
+}
+
+impl Part {
+    pub fn of(word: &[u8]) -> Option<Part> {
+        match word {
+            b"header" => Some(Part::Header),
+            b"trail" => Some(Part::Trail),
+            b"levels" => Some(Part::Levels),
+            b"values" => Some(Part::Values),
+            b"watches" => Some(Part::Watches),
+            b"pointers" => Some(Part::Pointers),
+            b"checks" => Some(Part::Checks),
+            b"heads" => Some(Part::Heads),
+            b"links" => Some(Part::Links),
+            _ => None,
+        }
+    }
 }
