@@ -15,6 +15,10 @@ module _ {P : Type 0} where
   pub says_false : (P → ⊥) → Says false P
   says_false n = record { yes = λ e. absurd (never e refl); no = λ _. n }
 
+  -- an answer that is no is right where the question does not hold
+  pub says_not : {r : Bool} → r ≡ false → (P → ⊥) → Says r P
+  says_not is n = rw is (says_false n)
+
   pub says_below : (a b : ℕ) → (a < b → P) → (b ≤ a → P → ⊥) → Says (ltb a b) P
   says_below a b p n = record { yes = λ e. p (ltb-true a b e); no = λ e. n (ltb-false a b e) }
 

@@ -10,31 +10,17 @@ use layout::offsets::{pointers_at, watches_at};
 use layout::values::{clause_start, wide};
 
 // The watches and the pointer of a clause of n literals.
+#[tactic(auto, unfolding(crate::specs::Validation::is_watching))]
 fn cell_passes(n: usize, first: u32, second: u32, pointer: u32) -> bool
     ensures { result ≡ is_watching n (record { first = first; second = second; pointer = pointer }) }
 {
     if n < 2 {
-        if first != 0 {
-            return false;
-        }
-        if second != 0 {
-            return false;
-        }
-        return pointer == 0;
+        return first == 0 && second == 0 && pointer == 0;
     }
-    if wide(first) >= n {
-        return false;
-    }
-    if wide(second) >= n {
-        return false;
-    }
-    if first == second {
-        return false;
-    }
-    if pointer == first {
-        return true;
-    }
-    pointer == second
+    (first as usize) < n
+        && (second as usize) < n
+        && first != second
+        && (pointer == first || pointer == second)
 }
 
 // The watches and pointers of all clauses.

@@ -34,13 +34,9 @@ fn header_passes(session: &[u32], clauses: usize) -> bool
     requires { trail_at ≤ length session.now }
     ensures { Says result (HeaderGood clauses session.now) }
 {
-    if wide(session[CONFLICT]) > clauses {
-        return false;
-    }
-    if session[BACKTRACKS] > MAX_BACKTRACKS {
-        return false;
-    }
-    session[FIXED] <= session[DECISIONS]
+    session[CONFLICT] as usize <= clauses
+        && session[BACKTRACKS] <= MAX_BACKTRACKS
+        && session[FIXED] <= session[DECISIONS]
 }
 
 // The numbers are those of a valid run: number 12 of the table is given exactly where this is false.
