@@ -7,7 +7,7 @@ ghost use Rattle.validation.specs.Inner.Says.{Says};
 ghost use Rattle.validation.specs.Inner.Cells.{CellsGood};
 
 use layout::offsets::{pointers_at, watches_at};
-use layout::values::{clause_start, wide};
+use layout::values::clause;
 
 // The watches and the pointer of a clause of n literals.
 #[tactic(auto, unfolding(crate::specs::Validation::is_watching))]
@@ -24,6 +24,7 @@ fn cell_passes(n: usize, first: u32, second: u32, pointer: u32) -> bool
 }
 
 // The watches and pointers of all clauses.
+#[tactic(auto, using(book::proofs::WellFormedLaws::well_formed_limited))]
 pub(crate) fn cells_pass(book: &[u32], session: &[u32]) -> bool
     requires { SessionFits book.now session.now }
     ensures { Says result (CellsGood (formula_of book.now) session.now) }
@@ -32,18 +33,12 @@ pub(crate) fn cells_pass(book: &[u32], session: &[u32]) -> bool
     let clauses = book::clauses(book);
     let watches = watches_at(variables);
     let pointers = pointers_at(variables, clauses);
-    let mut c = 0;
-    while c < clauses {
-        let n = clause_start(book, c + 1) - clause_start(book, c);
-        if !cell_passes(
-            n,
+    (0..clauses).all(|c| {
+        cell_passes(
+            clause(book, c).len(),
             session[watches + 2 * c],
             session[watches + 2 * c + 1],
             session[pointers + c],
-        ) {
-            return false;
-        }
-        c += 1;
-    }
-    true
+        )
+    })
 }
