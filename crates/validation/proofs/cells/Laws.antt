@@ -1,24 +1,19 @@
 -- Watches and pointers as session numbers hold them: the cell and the size of a clause, and what the test of one cell answers.
-use Prim.Native.Nat.{ℕ, suc, ◌+◌, ◌*◌, ◌-◌, ◌≤◌, ◌<◌}
-use native.Mathlib.Numerals.{add-one}
+use Prim.Native.Nat.{ℕ, ◌+◌, ◌*◌, ◌≤◌, ◌<◌}
 use native.Mathlib.Omega.{arith}
 use mathlib.Core.Bool.{Bool, true}
 use mathlib.Core.List.{List, []}
 use mathlib.Core.Logic.{⊎_elim}
-use mathlib.Core.Path.{◌≡◌, refl, sym, ap, ◌∙◌}
-use borrow.Author.Tests.{lt-ltb, le-ltb, le-leb, lt-leb, eq-eqb, ne_eqb}
-use lib.Dec.{eqb}
+use mathlib.Core.Path.{◌≡◌, sym, ap, ◌∙◌}
 use lib.ListN.{length, get_or, drop, get_or-eq_default}
 use lib.Seq.{get_or-take, get_or-drop}
-use Rattle.base.proofs.Bools.{below, never}
+use Rattle.base.proofs.Bools.{below}
 use Rattle.book.specs.Formula.{Formula}
 use Rattle.book.specs.Numbers.{variables_of, clauses_of, clause_at, formula_of}
-use Rattle.book.proofs.PartLaws.{clauses_counted, clause_of_formula, length_clause}
-use Rattle.book.proofs.WellFormedLaws.{well_formed_parted}
+use Rattle.book.proofs.PartLaws.{clauses_counted, clause_of_formula}
 use Rattle.run.specs.Scan.{Cell}
 use Rattle.run.specs.Run.{size, no_cell, cell_at}
-use Rattle.layout.specs.Layout.{Fits, SessionFits, watches_at, pointers_at, checks_at, held}
-use Rattle.layout.proofs.FitsLaws.{session_fits}
+use Rattle.layout.specs.Layout.{watches_at, pointers_at, checks_at, held}
 use Rattle.validation.specs.Validation.{is_watching}
 use Rattle.validation.specs.Inner.Says.{Says}
 use Rattle.validation.specs.Inner.Cells.{CellsGood}

@@ -1,4 +1,4 @@
-use Rattle.std.proofs.Common.{rules, arith, refl}
+use Rattle.std.proofs.Common.{rules, refl}
 use Rattle.validation.proofs.AllLaws.{says_all_below}
 use Rattle.validation.proofs.cells.Laws.{cells_answered}
 use Rattle.validation.proofs.cells.cells_pass.Goals as goal
