@@ -7,4 +7,5 @@ pub mod Lists
 pub mod Places
 pub mod Reasons
 pub mod Says
+pub mod Session
 pub mod Trail
