@@ -1,13 +1,12 @@
--- The validation of heads and links: the literal of a node, the walk along one list, the loop over the literals, the look at the nodes.
+-- The validation of heads and links: the literal of a node, the walk along one list, the loop over the literals.
 use Rattle.std.specs.Prelude.{Some, None}
 use Prim.Native.Nat.{ℕ, ◌+◌, ◌*◌, ◌%◌, ◌≤◌, ◌<◌}
 use native.Mathlib.Omega.{arith}
-use mathlib.Core.Bool.{Bool, true, false, not}
+use mathlib.Core.Bool.{Bool, true, false}
 use mathlib.Core.List.{List, [], ◌∷◌, ◌++◌}
 use mathlib.Core.Logic.{⊎_elim}
 use mathlib.Core.Path.{◌≡◌, refl, sym, ap, ap₂, ◌∙◌}
-use borrow.Author.Tests.{eqb-true, eqb-false, le-leb, lt-leb, eq-eqb, ne_eqb}
-use lib.Dec.{eqb}
+use borrow.Author.Tests.{le-leb, lt-leb, eq-eqb, ne_eqb}
 use lib.ListN.{length, get_or, set, length-set}
 use lib.Seq.{get_or-set_same, get_or-set_other}
 use Rattle.base.specs.Lists.{times}
@@ -19,12 +18,10 @@ use Rattle.book.proofs.PartLaws.{clauses_counted, clause_of_formula}
 use Rattle.run.specs.Run.{clause_of, size, cell_at}
 use Rattle.layout.specs.Layout.{watches_at, watch_literal, held, head_slot, link_slot, clause_of_node, watch_slot}
 use Rattle.layout.specs.Encodes.{Chain, end_slot}
-use Rattle.validation.specs.Inner.Says.{Says}
-use Rattle.validation.specs.Inner.Lists.{owner_in, Looking, ListGood, Marks, ListMarked, ListSays, Met, AllSays, NodeGood, NodesGood}
+use Rattle.validation.specs.Inner.Lists.{owner_in, Looking, ListGood, Marks, ListMarked, ListSays, Met, AllSays}
 use Rattle.layout.proofs.ChainLaws.{end_slot_more}
 use Rattle.validation.proofs.cells.Laws.{held_cell_lem, size_is}
 use Rattle.validation.proofs.places.Laws.{Room}
-use Rattle.validation.proofs.SaysLaws.{says_true, says_false, says_equal}
 use Rattle.base.proofs.Occurrences.{times-append}
 
 -- the room of the book in the session that is looked at
@@ -240,103 +237,41 @@ pub record Through (book numbers marks : List ℕ) (l : ℕ) : Type 0 where
   pub met : (j : ℕ) → 2 ≤ j → j < l → Met book numbers marks j
   pub clean : (n j : ℕ) → owner_in book numbers n ≡ Some j → l ≤ j → get_or marks n 0 ≡ 0
 
-module _ (book numbers : List ℕ) where
-  pub through_start : (marks : List ℕ) → Marks marks → ((n : ℕ) → get_or marks n 0 ≡ 0) → Through book numbers marks 2
-  through_start marks long zeros = record { long = long; met = λ j a b. absurd (omega arith); clean = λ n j e h. zeros n }
+module _ (book numbers marks : List ℕ) (l : ℕ) (t : Through book numbers marks l) where
+  pub through_end : 2 * variables_of book + 1 < l → AllSays book numbers marks true
+  through_end h =
+      record { long = t.long; yes = λ r j a b. t.met j a (omega arith); no = λ r. absurd (never refl r) }
 
-  module _ (marks : List ℕ) (l : ℕ) (t : Through book numbers marks l) where
-    pub through_clean : (n : ℕ) → owner_in book numbers n ≡ Some l → get_or marks n 0 ≡ 0
-    through_clean n e = t.clean n l e (omega arith)
-
-    pub through_end : 2 * variables_of book + 1 < l → AllSays book numbers marks true
-    through_end h =
-        record { long = t.long; yes = λ r j a b. t.met j a (omega arith); no = λ r. absurd (never refl r) }
-
-    module _ (after : List ℕ) where
-      pub through_not : (r : Bool) → r ≡ false → 2 ≤ l → l ≤ 2 * variables_of book + 1 → ListSays book numbers marks after l r
-          → AllSays book numbers after false
-      through_not r e low high says =
-          record { long = says.long; yes = λ z. absurd (never z refl); no = λ z all. says.no e (all l low high) }
-
-      pub through_more : (r : Bool) → r ≡ true → ListSays book numbers marks after l r → Through book numbers after (l + 1)
-      through_more r passed says =
-          record {
-            long = says.long;
-            met = λ j a b. ⊎_elim (earlier j a) (λ h. let same : j ≡ l = omega arith in rw same now-met) (below j l);
-            clean =
-                λ n j own h.
-                rw ((says.yes passed).marked n, foreign n (λ e. let same : j ≡ l = cc in omega arith))
-                (let z = t.clean n j own (omega arith) in omega arith);
-          }
-        where
-          marked : ListMarked book numbers marks after l
-          marked = says.yes passed
-
-          foreign : (n : ℕ) → (owner_in book numbers n ≡ Some l → ⊥) → times n marked.good.nodes ≡ 0
-          foreign n e = ⊎_elim (λ h. absurd (e (marked.good.owned n h).2)) (λ h. omega arith) (below 0 (times n marked.good.nodes))
-
-          earlier : (j : ℕ) → 2 ≤ j → j < l → Met book numbers after j
-          earlier j a h =
-              let m = t.met j a h in
-              record {
-                good = m.good;
-                exact =
-                    λ n e.
-                    let none = foreign n (λ z. let same : j ≡ l = cc in omega arith) in
-                    let same = m.exact n e in
-                    omega (arith, marked.marked n);
-              }
-
-          now-met : Met book numbers after l
-          now-met =
-              record { good = marked.good; exact = λ n e. let zero-before = t.clean n l e (omega arith) in omega (arith, marked.marked n) }
-
-  -- the look at one node, and at all
-  module _ (marks : List ℕ) (node : ℕ) where
-    pub node_idle : (link : ℕ) → owner_in book numbers node ≡ None → link ≡ link_slot (variables_of book) (clauses_of book) node
-        → Says (eqb (get_or numbers link 0) 0) (NodeGood book numbers marks node)
-    node_idle link none link-is =
-        says_equal (get_or numbers link 0) 0 (λ e. record { idle = λ z. rw (← link-is) e; met = λ l z. absurd (cc) })
-        (λ n good. n (rw link-is (good.idle none)))
-
-    pub node_met : (l place : ℕ) → place ≡ node → owner_in book numbers node ≡ Some l
-        → Says (not (eqb (get_or marks place 0) 0)) (NodeGood book numbers marks node)
-    node_met l place same some = rw same (go (eqb (get_or marks node 0) 0) refl)
+  module _ (after : List ℕ) where
+    pub through_more : (r : Bool) → r ≡ true → ListSays book numbers marks after l r → Through book numbers after (l + 1)
+    through_more r passed says =
+        record {
+          long = says.long;
+          met = λ j a b. ⊎_elim (earlier j a) (λ h. let same : j ≡ l = omega arith in rw same now-met) (below j l);
+          clean =
+              λ n j own h.
+              rw ((says.yes passed).marked n, foreign n (λ e. let same : j ≡ l = cc in omega arith))
+              (let z = t.clean n j own (omega arith) in omega arith);
+        }
       where
-        go : (b : Bool) → eqb (get_or marks node 0) 0 ≡ b → Says (not b) (NodeGood book numbers marks node)
-        go true e = says_false (λ good. let z = good.met l some in let y = eqb-true (get_or marks node 0) 0 e in omega arith)
-        go false e =
-            says_true
-            (record {
-              idle = λ z. absurd (cc);
-              met = λ j z. ⊎_elim (λ h. h) (λ h. absurd (eqb-false (get_or marks node 0) 0 e (omega arith))) (below 0 (get_or marks node 0));
-            })
+        marked : ListMarked book numbers marks after l
+        marked = says.yes passed
 
-  pub record Looked (marks : List ℕ) (last node : ℕ) : Type 0 where
-    pub last_is : last ≡ 2 * clauses_of book
-    pub last_small : last ≤ 2 * max_clauses
-    pub low : 1 ≤ node
-    pub bound : node ≤ last + 1
-    pub good : (n : ℕ) → 1 ≤ n → n < node → NodeGood book numbers marks n
+        foreign : (n : ℕ) → (owner_in book numbers n ≡ Some l → ⊥) → times n marked.good.nodes ≡ 0
+        foreign n e = ⊎_elim (λ h. absurd (e (marked.good.owned n h).2)) (λ h. omega arith) (below 0 (times n marked.good.nodes))
 
-  module _ (marks : List ℕ) (last : ℕ) where
-    pub looked_none : Looking book numbers → (clauses : ℕ) → clauses ≡ clauses_of book → last ≡ 2 * clauses → Looked marks last 1
-    looked_none k clauses e f =
-        record { last_is = omega arith; last_small = omega arith; low = omega arith; bound = omega arith; good = λ n a b. absurd (omega arith) }
+        earlier : (j : ℕ) → 2 ≤ j → j < l → Met book numbers after j
+        earlier j a h =
+            let m = t.met j a h in
+            record {
+              good = m.good;
+              exact =
+                  λ n e.
+                  let none = foreign n (λ z. let same : j ≡ l = cc in omega arith) in
+                  let same = m.exact n e in
+                  omega (arith, marked.marked n);
+            }
 
-    module _ (node : ℕ) (k : Looked marks last node) where
-      pub looked_more : (r : Bool) → r ≡ true → node ≤ last → Says r (NodeGood book numbers marks node) → Looked marks last (node + 1)
-      looked_more r passed h says =
-          record {
-            last_is = k.last_is;
-            last_small = k.last_small;
-            low = omega arith;
-            bound = omega arith;
-            good = λ n a b. ⊎_elim (λ z. k.good n a z) (λ z. let same : n ≡ node = omega arith in rw same (says.yes passed)) (below n node);
-          }
-
-      pub looked_not : (r : Bool) → r ≡ false → node ≤ last → Says r (NodeGood book numbers marks node) → Says false (NodesGood book numbers marks)
-      looked_not r e h says = says_false (λ all. says.no e (all node k.low (omega (arith, k.last_is))))
-
-      pub looked_all : last < node → Says true (NodesGood book numbers marks)
-      looked_all h = says_true (λ n a b. k.good n a (omega (arith, k.last_is)))
+        now-met : Met book numbers after l
+        now-met =
+            record { good = marked.good; exact = λ n e. let zero-before = t.clean n l e (omega arith) in omega (arith, marked.marked n) }
