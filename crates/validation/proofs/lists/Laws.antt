@@ -183,17 +183,10 @@ module _ (book numbers before : List ℕ) (l : ℕ) where
               let none : times node w.passed ≡ 0 = omega (arith, times-same node rest, good.once node) in
               (own.0, own.1, own.2, omega (arith, w.marked node, clean node own.2))
 
-      walking-not : (ListGood book numbers l → ⊥) → ListSays book numbers before marks l false
-      walking-not n = record { long = w.long; yes = λ r. absurd (never r refl); no = λ r. n }
-
-      pub walking_far : 2 * clauses_of book < node → ListSays book numbers before marks l false
-      walking_far h = walking-not (λ good. let z = (next-good good).1 in omega arith)
-
-      pub walking_foreign : (owner_in book numbers node ≡ Some l → ⊥) → ListSays book numbers before marks l false
-      walking_foreign h = walking-not (λ good. h (next-good good).2)
-
-      pub walking_twice : (get_or marks node 0 ≡ 0 → ⊥) → ListSays book numbers before marks l false
-      walking_twice h = walking-not (λ good. h (next-good good).3)
+      pub walking_stops : (node ≤ 2 * clauses_of book → owner_in book numbers node ≡ Some l → get_or marks node 0 ≡ 0 → ⊥)
+          → ListSays book numbers before marks l false
+      walking_stops bad =
+          record { long = w.long; yes = λ r. absurd (never r refl); no = λ r good. let next = next-good good in bad next.1 next.2 next.3 }
 
       pub list_walk_more : (link : ℕ) → node ≤ 2 * clauses_of book → clauses_of book ≤ max_clauses → owner_in book numbers node ≡ Some l → get_or marks node 0 ≡ 0
           → link ≡ link_slot (variables_of book) (clauses_of book) node → ListWalk book numbers before (set marks node 1) l (get_or numbers link 0)
