@@ -27,7 +27,7 @@ fn owner(book: &[u32], session: &[u32], node: u32) -> Option<u32>
 }
 
 // The list of one literal: every node is one of the literal's and is met once. It is marked then.
-#[tactic(auto, using(base::proofs::Occurrences::zeros_fewer, crate::proofs::lists::Laws::room, crate::proofs::lists::Laws::walking_start, crate::proofs::lists::Laws::walking_end, crate::proofs::lists::Laws::list_walk_more))]
+#[tactic(auto, using(base::proofs::Occurrences::zeros_fewer, crate::proofs::lists::Laws::walking_start, crate::proofs::lists::Laws::walking_end, crate::proofs::lists::Laws::list_walk_more))]
 fn list_passes(book: &[u32], session: &[u32], marks: &mut [u8; NODE_MARKS], literal: u32) -> bool
     requires looking { Looking book.now session.now }
     requires le_literal { (2 ≤ literal) × (literal ≤ 2 * variables_of book.now + 1) }
@@ -40,7 +40,7 @@ fn list_passes(book: &[u32], session: &[u32], marks: &mut [u8; NODE_MARKS], lite
     let mut node = session[head_slot(variables, clauses, literal)];
     while node != 0 {
         let place = node as usize;
-        if 2 * clauses < place || owner(book, session, node) != Some(literal) || marks[place] != 0 {
+        if place > 2 * clauses || owner(book, session, node) != Some(literal) || marks[place] != 0 {
             return false;
         }
         marks[place] = 1;

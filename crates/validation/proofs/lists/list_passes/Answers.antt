@@ -2,6 +2,6 @@ use Rattle.std.proofs.Common.{rules, arith}
 use Rattle.validation.proofs.lists.Laws.{walking_stops}
 use Rattle.validation.proofs.lists.list_passes.Goals as goal
 
-pub returns-then-clauses-place : goal.returns-then-clauses-place
-returns-then-clauses-place c =
-    walking_stops _ _ _ _ _ _ c.loop-node.invariant.1 c.requires.by_index (λ none. omega arith) (λ high own unmarked. search rules)
+pub returns-then-place-clauses : goal.returns-then-place-clauses
+returns-then-place-clauses c =
+    walking_stops _ _ _ _ _ _ c.loop-node.invariant c.requires.by_index (λ none. omega arith) (λ high own unmarked. search rules)

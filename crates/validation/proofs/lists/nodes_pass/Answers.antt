@@ -3,13 +3,8 @@ use Rattle.validation.proofs.SaysLaws.{says_true}
 use Rattle.validation.proofs.lists.nodes_pass.Goals as goal
 
 pub loop-node-preserved : goal.loop-node-preserved
-loop-node-preserved c =
-    record {
-      last_is = c.loop-node.invariant.last_is;
-      good = below_more _ _ c.loop-node.invariant.good (λ low. c.node_passes.ensures.yes (search rules));
-    }
+loop-node-preserved c = below_more _ _ c.loop-node.invariant (λ low. c.node_passes.ensures.yes (search rules))
 
 pub returns-else-not-node_passes : goal.returns-else-not-node_passes
 returns-else-not-node_passes c =
-    says_true
-    (λ n low high. below_more _ _ c.loop-node.invariant.good (λ _. c.node_passes.ensures.yes (search rules)) n (omega arith) low)
+    says_true (λ n low high. below_more _ _ c.loop-node.invariant (λ _. c.node_passes.ensures.yes (search rules)) n (omega arith) low)
