@@ -1,5 +1,5 @@
 // The validation of watch lists, on any numbers.
-ghost use Rattle.std.specs.Prelude.{Some, ◌≡◌, ℕ, ◌*◌, ◌+◌, ◌≤◌, get_or};
+ghost use Rattle.std.specs.Prelude.{Some, false, ◌≡◌, ℕ, ◌*◌, ◌+◌, ◌≤◌, get_or};
 ghost use Rattle.book.specs.Numbers.{variables_of, clauses_of, formula_of};
 ghost use Rattle.validation.specs.Inner.Says.{Says};
 ghost use Rattle.validation.specs.Inner.Lists.{ListsGood, owner_in, Looking, Marks, ListSays, AllSays, NodeGood, NodesGood};
@@ -27,12 +27,12 @@ fn owner(book: &[u32], session: &[u32], node: u32) -> Option<u32>
 }
 
 // The list of one literal: every node is one of the literal's and is met once. It is marked then.
-#[tactic(auto, using(base::proofs::Occurrences::zeros_fewer, crate::proofs::lists::Laws::walking_start, crate::proofs::lists::Laws::walking_end, crate::proofs::lists::Laws::list_walk_more))]
-fn list_passes(book: &[u32], session: &[u32], marks: &mut [u8; NODE_MARKS], literal: u32) -> bool
+#[tactic(auto, using(crate::proofs::lists::Laws::marks_fewer, crate::proofs::lists::Laws::walking_start, crate::proofs::lists::Laws::walking_end, crate::proofs::lists::Laws::list_walk_more))]
+fn list_passes(book: &[u32], session: &[u32], marks: &mut [bool; NODE_MARKS], literal: u32) -> bool
     requires looking { Looking book.now session.now }
     requires le_literal { (2 ≤ literal) × (literal ≤ 2 * variables_of book.now + 1) }
     requires marks { Marks marks.old }
-    requires by_index { (n : ℕ) → owner_in book.now session.now n ≡ Some literal → get_or marks.old n 0 ≡ 0 }
+    requires by_index { (n : ℕ) → owner_in book.now session.now n ≡ Some literal → get_or marks.old n false ≡ false }
     ensures { ListSays book.now session.now marks.old marks.new literal result }
 {
     let variables = book::variables(book);
@@ -40,10 +40,10 @@ fn list_passes(book: &[u32], session: &[u32], marks: &mut [u8; NODE_MARKS], lite
     let mut node = session[head_slot(variables, clauses, literal)];
     while node != 0 {
         let place = node as usize;
-        if place > 2 * clauses || owner(book, session, node) != Some(literal) || marks[place] != 0 {
+        if place > 2 * clauses || owner(book, session, node) != Some(literal) || marks[place] {
             return false;
         }
-        marks[place] = 1;
+        marks[place] = true;
         node = session[link_slot(variables, clauses, node)];
     }
     true
@@ -51,10 +51,10 @@ fn list_passes(book: &[u32], session: &[u32], marks: &mut [u8; NODE_MARKS], lite
 
 // The lists of all literals.
 #[tactic(auto, using(crate::proofs::lists::Laws::through_more, crate::proofs::lists::Laws::through_end))]
-fn all_lists_pass(book: &[u32], session: &[u32], marks: &mut [u8; NODE_MARKS]) -> bool
+fn all_lists_pass(book: &[u32], session: &[u32], marks: &mut [bool; NODE_MARKS]) -> bool
     requires looking { Looking book.now session.now }
     requires marks { Marks marks.old }
-    requires by_index { (n : ℕ) → get_or marks.old n 0 ≡ 0 }
+    requires by_index { (n : ℕ) → get_or marks.old n false ≡ false }
     ensures { AllSays book.now session.now marks.new result }
 {
     let last = 2 * book::variables(book) as u32 + 1;
@@ -67,18 +67,18 @@ fn all_lists_pass(book: &[u32], session: &[u32], marks: &mut [u8; NODE_MARKS]) -
 }
 
 // A node of a watch is marked, and the link of any other is 0.
-fn node_passes(book: &[u32], session: &[u32], marks: &[u8; NODE_MARKS], node: u32) -> bool
+fn node_passes(book: &[u32], session: &[u32], marks: &[bool; NODE_MARKS], node: u32) -> bool
     requires looking { Looking book.now session.now }
     requires le_node { (1 ≤ node) × (node ≤ 2 * clauses_of book.now) }
     ensures { Says result (NodeGood book.now session.now marks.now node) }
 {
     match owner(book, session, node) {
-        Some(_) => marks[node as usize] != 0,
+        Some(_) => marks[node as usize],
         None => session[link_slot(book::variables(book), book::clauses(book), node)] == 0,
     }
 }
 
-fn nodes_pass(book: &[u32], session: &[u32], marks: &[u8; NODE_MARKS]) -> bool
+fn nodes_pass(book: &[u32], session: &[u32], marks: &[bool; NODE_MARKS]) -> bool
     requires { Looking book.now session.now }
     ensures { Says result (NodesGood book.now session.now marks.now) }
 {
@@ -97,6 +97,6 @@ pub(crate) fn lists_pass(book: &[u32], session: &[u32]) -> bool
     requires { Looking book.now session.now }
     ensures { Says result (ListsGood (formula_of book.now) session.now) }
 {
-    let mut marks = [0u8; NODE_MARKS];
+    let mut marks = [false; NODE_MARKS];
     all_lists_pass(book, session, &mut marks) && nodes_pass(book, session, &marks)
 }

@@ -102,6 +102,10 @@ times_halves c (n ∷ nodes) low =
     go (inr e) (inr f) h =
         omega (arith, some, times_other c (clause_of_node n) (map clause_of_node nodes) (λ z. let s = some in ⊎_elim (λ k. f (omega arith)) (λ k. e (omega arith)) (alike (n % 2) 0)), times_other (2 * c + 1) n nodes (λ z. e (sym z)), times_other (2 * c + 2) n nodes (λ z. f (sym z)))
 
+marked_is : {b : Bool} → 0 < one b → b ≡ true
+marked_is {b = true} h = refl
+marked_is {b = false} h = absurd (omega arith)
+
 module _ (book numbers : List ℕ) (k : Looking book numbers) where
   abbrev formula : Formula
   formula = formula_of book
@@ -203,7 +207,7 @@ module _ (book numbers : List ℕ) (k : Looking book numbers) where
           (λ p. p.1 ∙ sym is) (node_cases formula cells l (clause_of_node n))
 
   -- all lists pass and all nodes: heads and links are good
-  module _ (marks : List ℕ) (met : (l : ℕ) → 2 ≤ l → l ≤ 2 * variables_of book + 1 → Met book numbers marks l) (looked : NodesGood book numbers marks) where
+  module _ (marks : List Bool) (met : (l : ℕ) → 2 ≤ l → l ≤ 2 * variables_of book + 1 → Met book numbers marks l) (looked : NodesGood book numbers marks) where
     module _ (l : ℕ) (low : 2 ≤ l) (high : l ≤ 2 * variables_of book + 1) where
       abbrev nodes : List ℕ
       nodes = (met l low high).good.nodes
@@ -238,10 +242,10 @@ module _ (book numbers : List ℕ) (k : Looking book numbers) where
           here : l ≡ owner_number n → times n nodes ≡ one (eqb l (owner_number n))
           here e =
               let own : owner n ≡ Some l = some_number n l (omega arith) e in
-              let marked : 0 < get_or marks n 0 = (looked n first (owned_within n l own)).met l own in
+              let marked : get_or marks n false ≡ true = (looked n first (owned_within n l own)).met l own in
               let exact = (met l low high).exact n own in
               let once = (met l low high).good.once n in
-              rw (eq-eqb l (owner_number n) e) (omega arith)
+              rw (eq-eqb l (owner_number n) e) (omega (arith, ap one marked))
 
           there : (l ≡ owner_number n → ⊥) → times n nodes ≡ one (eqb l (owner_number n))
           there e =
@@ -344,7 +348,7 @@ module _ (book numbers : List ℕ) (k : Looking book numbers) where
             owned = node-owned;
           }
 
-    module _ (marks : List ℕ) (met : (l : ℕ) → 2 ≤ l → l ≤ 2 * variables_of book + 1 → Met book numbers marks l) where
+    module _ (marks : List Bool) (met : (l : ℕ) → 2 ≤ l → l ≤ 2 * variables_of book + 1 → Met book numbers marks l) where
       nodes-pass : NodesGood book numbers marks
       nodes-pass n low high =
           record {
@@ -358,13 +362,13 @@ module _ (book numbers : List ℕ) (k : Looking book numbers) where
           watched-some : 2 ≤ size formula (clause_of_node n) → owner n ≡ None → ⊥
           watched-some two none = let some = owner_two n two in cc
 
-          go : AtNode formula cells lists n → owner n ≡ Some (watch_literal formula cells n) → 0 < get_or marks n 0
+          go : AtNode formula cells lists n → owner n ≡ Some (watch_literal formula cells n) → get_or marks n false ≡ true
           go at own =
               let l-in = literal_parts formula.variables (watch_literal formula cells n) at.within in
               marked (watch_literal formula cells n) l-in.0 l-in.1 own at.stands_there at.is_node
             where
               marked : (l : ℕ) → 2 ≤ l → l ≤ 2 * variables_of book + 1 → owner n ≡ Some l → 0 < times (clause_of_node n) (list_of lists l)
-                  → node_of formula cells l (clause_of_node n) ≡ n → 0 < get_or marks n 0
+                  → node_of formula cells l (clause_of_node n) ≡ n → get_or marks n false ≡ true
               marked l a b own there is =
                   let m = met l a b in
                   let same : m.good.nodes ≡ nodes_of formula cells l (list_of lists l)
@@ -373,14 +377,14 @@ module _ (book numbers : List ℕ) (k : Looking book numbers) where
                   (λ x h. (m.good.owned x h).0) (λ x h. (node-owned l a b x h).0) m.good.chain (listed-chain l a b) in
                   let listed : 0 < times n (nodes_of formula cells l (list_of lists l))
                   = rw is at (times-map_in (node_of formula cells l) (clause_of_node n) (list_of lists l) there) in
-                  rw (m.exact n own, same) listed
+                  marked_is (rw (m.exact n own, same) listed)
 
 -- what lists_pass answers
-pub lists_refused : (book numbers marks : List ℕ) → Looking book numbers → (r : Bool) → r ≡ false → AllSays book numbers marks r
+pub lists_refused : (book numbers : List ℕ) (marks : List Bool) → Looking book numbers → (r : Bool) → r ≡ false → AllSays book numbers marks r
     → Says r (ListsGood (formula_of book) numbers)
 lists_refused book numbers marks k r e says = says_not e (λ good. says.no e (list-passes book numbers k good))
 
-pub lists_answered : (book numbers marks : List ℕ) → Looking book numbers → (r : Bool) → r ≡ true → AllSays book numbers marks r
+pub lists_answered : (book numbers : List ℕ) (marks : List Bool) → Looking book numbers → (r : Bool) → r ≡ true → AllSays book numbers marks r
     → (answer : Bool) → Says answer (NodesGood book numbers marks) → Says answer (ListsGood (formula_of book) numbers)
 lists_answered book numbers marks k r e says answer =
     says_alike (lists-good book numbers k marks (says.yes e)) (λ good. nodes-pass book numbers k good marks (says.yes e))

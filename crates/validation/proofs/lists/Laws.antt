@@ -2,7 +2,7 @@
 use Rattle.std.specs.Prelude.{Some, None}
 use Prim.Native.Nat.{ℕ, ◌+◌, ◌*◌, ◌%◌, ◌≤◌, ◌<◌}
 use native.Mathlib.Omega.{arith}
-use mathlib.Core.Bool.{Bool, true, false}
+use mathlib.Core.Bool.{Bool, true, false, not}
 use mathlib.Core.List.{List, [], ◌∷◌, ◌++◌}
 use mathlib.Core.Logic.{⊎_elim}
 use mathlib.Core.Path.{◌≡◌, refl, sym, ap, ap₂, ◌∙◌}
@@ -15,6 +15,9 @@ use Rattle.base.proofs.Members.{times-same, times_other}
 use Rattle.book.specs.Formula.{max_clauses}
 use Rattle.book.specs.Numbers.{variables_of, clauses_of, clause_at, formula_of}
 use Rattle.book.proofs.PartLaws.{clauses_counted, clause_of_formula}
+use Rattle.std.specs.List.{sum_by}
+use Rattle.std.proofs.lemmas.List.Sums.{sum_by-set}
+use Rattle.run.specs.Valid.{one}
 use Rattle.run.specs.Run.{clause_of, size, cell_at}
 use Rattle.layout.specs.Layout.{watches_at, watch_literal, held, head_slot, link_slot, clause_of_node, watch_slot}
 use Rattle.layout.specs.Encodes.{Chain, end_slot}
@@ -87,6 +90,18 @@ module _ (book numbers : List ℕ) (k : Looking book numbers) (node : ℕ) (low 
         rw (le-leb 2 (size (formula_of book) (clause_of_node node)) big)
         (ap Some (watch-read.1 ∙ ap (λ (xs : List ℕ). get_or xs position 0) (clause_of_formula book (clause_of_node node) inside)))
 
+unmarked_is : {b : Bool} → one b ≡ 0 → b ≡ false
+unmarked_is {b = false} e = refl
+unmarked_is {b = true} e = absurd (omega arith)
+
+-- one mark more
+abbrev pub unmarked : Bool → ℕ
+unmarked m = one (not m)
+
+pub marks_fewer : (marks : List Bool) (node : ℕ) → node < length marks → get_or marks node false ≡ false
+    → sum_by unmarked (set marks node true) < sum_by unmarked marks
+marks_fewer marks node h e = omega (arith, sum_by-set unmarked marks node true false h, ap unmarked e)
+
 -- the first nodes of a chain
 abbrev Upto : ℕ → ℕ → List ℕ → ℕ → List ℕ → Type 0
 Upto v c numbers slot [] = Unit
@@ -118,16 +133,16 @@ module _ (v c : ℕ) (numbers : List ℕ) where
       deeper x h = ⊎_elim (λ e. rw e (omega (arith, times-same m passed))) (λ n. omega (arith, times_other x m passed n)) (alike x m)
 
 -- the walk along the list of l: some nodes are passed and marked, and `node` is next
-pub record ListWalk (book numbers before marks : List ℕ) (l node : ℕ) : Type 0 where
+pub record ListWalk (book numbers : List ℕ) (before marks : List Bool) (l node : ℕ) : Type 0 where
   pub long : Marks marks
   pub passed : List ℕ
   pub upto : Upto (variables_of book) (clauses_of book) numbers (head_slot (variables_of book) (clauses_of book) l) passed
   pub next : get_or numbers (end_slot (variables_of book) (clauses_of book) (head_slot (variables_of book) (clauses_of book) l) passed) 0 ≡ node
   pub once : (n : ℕ) → times n passed ≤ 1
   pub owned : (n : ℕ) → 0 < times n passed → (1 ≤ n) × (n ≤ 2 * clauses_of book) × (owner_in book numbers n ≡ Some l)
-  pub marked : (n : ℕ) → get_or marks n 0 ≡ get_or before n 0 + times n passed
+  pub marked : (n : ℕ) → one (get_or marks n false) ≡ one (get_or before n false) + times n passed
 
-module _ (book numbers before : List ℕ) (l : ℕ) where
+module _ (book numbers : List ℕ) (before : List Bool) (l : ℕ) where
   pub walking_start : (head : ℕ) → Marks before → head ≡ head_slot (variables_of book) (clauses_of book) l → ListWalk book numbers before before l (get_or numbers head 0)
   unfolding times
   walking_start head long e =
@@ -141,7 +156,7 @@ module _ (book numbers before : List ℕ) (l : ℕ) where
         marked = λ n. omega arith;
       }
 
-  module _ (marks : List ℕ) (node : ℕ) (w : ListWalk book numbers before marks l node) where
+  module _ (marks : List Bool) (node : ℕ) (w : ListWalk book numbers before marks l node) where
     pub walking_end : node ≡ 0 → ListSays book numbers before marks l true
     walking_end e =
         record {
@@ -162,9 +177,9 @@ module _ (book numbers before : List ℕ) (l : ℕ) where
           no = λ r. absurd (never refl r);
         }
 
-    module _ (clean : (n : ℕ) → owner_in book numbers n ≡ Some l → get_or before n 0 ≡ 0) (some : node ≡ 0 → ⊥) where
+    module _ (clean : (n : ℕ) → owner_in book numbers n ≡ Some l → get_or before n false ≡ false) (some : node ≡ 0 → ⊥) where
       -- what a good list says of the next node
-      next-good : ListGood book numbers l → (1 ≤ node) × (node ≤ 2 * clauses_of book) × (owner_in book numbers node ≡ Some l) × (get_or marks node 0 ≡ 0)
+      next-good : ListGood book numbers l → (1 ≤ node) × (node ≤ 2 * clauses_of book) × (owner_in book numbers node ≡ Some l) × (get_or marks node false ≡ false)
       next-good good =
           go
           (chain_goes_on (variables_of book) (clauses_of book) numbers (head_slot (variables_of book) (clauses_of book) l) good.nodes w.passed good.chain w.upto
@@ -172,7 +187,7 @@ module _ (book numbers before : List ℕ) (l : ℕ) where
         where
           go : (rest : List ℕ) × (good.nodes ≡ w.passed ++ rest)
               × Chain (variables_of book) (clauses_of book) numbers (end_slot (variables_of book) (clauses_of book) (head_slot (variables_of book) (clauses_of book) l) w.passed) rest
-              → (1 ≤ node) × (node ≤ 2 * clauses_of book) × (owner_in book numbers node ≡ Some l) × (get_or marks node 0 ≡ 0)
+              → (1 ≤ node) × (node ≤ 2 * clauses_of book) × (owner_in book numbers node ≡ Some l) × (get_or marks node false ≡ false)
           go ([], same, ch) = absurd (some (sym w.next ∙ ch))
           go (x ∷ rest, same, ch) =
               let is : x ≡ node = sym ch.0 ∙ w.next in
@@ -181,19 +196,19 @@ module _ (book numbers before : List ℕ) (l : ℕ) where
               let there : 0 < times node good.nodes = omega (arith, times-same node rest) in
               let own = good.owned node there in
               let none : times node w.passed ≡ 0 = omega (arith, times-same node rest, good.once node) in
-              (own.0, own.1, own.2, omega (arith, w.marked node, clean node own.2))
+              (own.0, own.1, own.2, unmarked_is (omega (arith, w.marked node, ap one (clean node own.2))))
 
-      pub walking_stops : (node ≤ 2 * clauses_of book → owner_in book numbers node ≡ Some l → get_or marks node 0 ≡ 0 → ⊥)
+      pub walking_stops : (node ≤ 2 * clauses_of book → owner_in book numbers node ≡ Some l → get_or marks node false ≡ false → ⊥)
           → ListSays book numbers before marks l false
       walking_stops bad =
           record { long = w.long; yes = λ r. absurd (never r refl); no = λ r good. let next = next-good good in bad next.1 next.2 next.3 }
 
-      pub list_walk_more : (link : ℕ) → node ≤ 2 * clauses_of book → clauses_of book ≤ max_clauses → owner_in book numbers node ≡ Some l → get_or marks node 0 ≡ 0
-          → link ≡ link_slot (variables_of book) (clauses_of book) node → ListWalk book numbers before (set marks node 1) l (get_or numbers link 0)
+      pub list_walk_more : (link : ℕ) → node ≤ 2 * clauses_of book → clauses_of book ≤ max_clauses → owner_in book numbers node ≡ Some l → get_or marks node false ≡ false
+          → link ≡ link_slot (variables_of book) (clauses_of book) node → ListWalk book numbers before (set marks node true) l (get_or numbers link 0)
       unfolding times
       list_walk_more link high few own unmarked link-is =
           record {
-            long = length-set marks node 1 ∙ w.long;
+            long = length-set marks node true ∙ w.long;
             passed = w.passed ++ (node ∷ []);
             upto = upto-more (variables_of book) (clauses_of book) numbers (head_slot (variables_of book) (clauses_of book) l) w.passed node w.upto w.next;
             next =
@@ -208,7 +223,7 @@ module _ (book numbers before : List ℕ) (l : ℕ) where
           low = ⊎_elim (λ z. absurd (some (omega arith))) (λ z. z) (below node 1)
 
           none : times node w.passed ≡ 0
-          none = omega (arith, w.marked node, clean node own)
+          none = omega (arith, w.marked node, ap one unmarked, ap one (clean node own))
 
           more-here : times node (w.passed ++ (node ∷ [])) ≡ times node w.passed + 1
           more-here = times-append node w.passed (node ∷ []) ∙ ap (λ (x : ℕ). times node w.passed + x) (times-same node [])
@@ -216,26 +231,26 @@ module _ (book numbers before : List ℕ) (l : ℕ) where
           more-other : (n : ℕ) → (n ≡ node → ⊥) → times n (w.passed ++ (node ∷ [])) ≡ times n w.passed
           more-other n e = times-append n w.passed (node ∷ []) ∙ (omega (arith, times_other n node [] e))
 
-          mark-here : (n : ℕ) → n ≡ node → get_or (set marks node 1) n 0 ≡ get_or before n 0 + times n (w.passed ++ (node ∷ []))
+          mark-here : (n : ℕ) → n ≡ node → one (get_or (set marks node true) n false) ≡ one (get_or before n false) + times n (w.passed ++ (node ∷ []))
           mark-here n e =
               let there : node < length marks = omega (arith, w.long) in
-              rw (e, get_or-set_same marks node 1 0 there, more-here, none, clean node own)
+              rw (e, get_or-set_same marks node true false there, more-here, none, clean node own)
 
-          mark-other : (n : ℕ) → (n ≡ node → ⊥) → get_or (set marks node 1) n 0 ≡ get_or before n 0 + times n (w.passed ++ (node ∷ []))
-          mark-other n e = rw (get_or-set_other marks node n 1 0 e, more-other n e) (w.marked n)
+          mark-other : (n : ℕ) → (n ≡ node → ⊥) → one (get_or (set marks node true) n false) ≡ one (get_or before n false) + times n (w.passed ++ (node ∷ []))
+          mark-other n e = rw (get_or-set_other marks node n true false e, more-other n e) (w.marked n)
 
 -- the loop over the literals: the lists of those below l are good, and the nodes of the others are not marked
-pub record Through (book numbers marks : List ℕ) (l : ℕ) : Type 0 where
+pub record Through (book numbers : List ℕ) (marks : List Bool) (l : ℕ) : Type 0 where
   pub long : Marks marks
   pub met : (j : ℕ) → 2 ≤ j → j < l → Met book numbers marks j
-  pub clean : (n j : ℕ) → owner_in book numbers n ≡ Some j → l ≤ j → get_or marks n 0 ≡ 0
+  pub clean : (n j : ℕ) → owner_in book numbers n ≡ Some j → l ≤ j → get_or marks n false ≡ false
 
-module _ (book numbers marks : List ℕ) (l : ℕ) (t : Through book numbers marks l) where
+module _ (book numbers : List ℕ) (marks : List Bool) (l : ℕ) (t : Through book numbers marks l) where
   pub through_end : 2 * variables_of book + 1 < l → AllSays book numbers marks true
   through_end h =
       record { long = t.long; yes = λ r j a b. t.met j a (omega arith); no = λ r. absurd (never refl r) }
 
-  module _ (after : List ℕ) where
+  module _ (after : List Bool) where
     pub through_more : (r : Bool) → r ≡ true → ListSays book numbers marks after l r → Through book numbers after (l + 1)
     through_more r passed says =
         record {
@@ -243,8 +258,13 @@ module _ (book numbers marks : List ℕ) (l : ℕ) (t : Through book numbers mar
           met = λ j a b. ⊎_elim (earlier j a) (λ h. let same : j ≡ l = omega arith in rw same now-met) (below j l);
           clean =
               λ n j own h.
-              rw ((says.yes passed).marked n, foreign n (λ e. let same : j ≡ l = cc in omega arith))
-              (let z = t.clean n j own (omega arith) in omega arith);
+              unmarked_is
+              (omega (
+                arith,
+                (says.yes passed).marked n,
+                ap one (t.clean n j own (omega arith)),
+                foreign n (λ e. let same : j ≡ l = cc in omega arith),
+              ));
         }
       where
         marked : ListMarked book numbers marks after l
@@ -267,4 +287,4 @@ module _ (book numbers marks : List ℕ) (l : ℕ) (t : Through book numbers mar
 
         now-met : Met book numbers after l
         now-met =
-            record { good = marked.good; exact = λ n e. let zero-before = t.clean n l e (omega arith) in omega (arith, marked.marked n) }
+            record { good = marked.good; exact = λ n e. let zero-before = t.clean n l e (omega arith) in omega (arith, marked.marked n, ap one zero-before) }
