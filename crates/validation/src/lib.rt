@@ -41,8 +41,7 @@ fn header_passes(session: &[u32], clauses: usize) -> bool
         && session[FIXED] <= session[DECISIONS]
 }
 
-// What the conflict number says: with no conflict propagation is at its end, and in conflict a clause is all false and propagation was at its end below
-// the top level.
+// With no conflict propagation is at its end; in conflict a clause is all false, and propagation was at its end below the top level.
 fn conflict_passes(book: &[u32], session: &[u32]) -> bool
     requires trail_passed { TrailPassed book.now session.now }
     requires cells_good { CellsGood (formula_of book.now) session.now }

@@ -2,7 +2,7 @@
 ghost use Rattle.std.specs.Prelude.{Some, false, ◌≡◌, ℕ, ◌*◌, ◌+◌, ◌≤◌, get_or};
 ghost use Rattle.book.specs.Numbers.{variables_of, clauses_of, formula_of};
 ghost use Rattle.validation.specs.Inner.Says.{Says};
-ghost use Rattle.validation.specs.Inner.Lists.{ListsGood, owner_in, Looking, Marks, ListSays, AllSays, NodeGood, NodesGood};
+ghost use Rattle.validation.specs.Inner.Lists.{ListsGood, owner_in, Looking, ListSays, AllSays, NodeGood, NodesGood};
 
 use book::limits::MAX_CLAUSES;
 use layout::offsets::{clause_of_node, head_slot, link_slot, watch_slot};
@@ -31,7 +31,6 @@ fn owner(book: &[u32], session: &[u32], node: u32) -> Option<u32>
 fn list_passes(book: &[u32], session: &[u32], marks: &mut [bool; NODE_MARKS], literal: u32) -> bool
     requires looking { Looking book.now session.now }
     requires le_literal { (2 ≤ literal) × (literal ≤ 2 * variables_of book.now + 1) }
-    requires marks { Marks marks.old }
     requires by_index { (n : ℕ) → owner_in book.now session.now n ≡ Some literal → get_or marks.old n false ≡ false }
     ensures { ListSays book.now session.now marks.old marks.new literal result }
 {
@@ -53,7 +52,6 @@ fn list_passes(book: &[u32], session: &[u32], marks: &mut [bool; NODE_MARKS], li
 #[tactic(auto, using(crate::proofs::lists::Laws::through_more, crate::proofs::lists::Laws::through_end))]
 fn all_lists_pass(book: &[u32], session: &[u32], marks: &mut [bool; NODE_MARKS]) -> bool
     requires looking { Looking book.now session.now }
-    requires marks { Marks marks.old }
     requires by_index { (n : ℕ) → get_or marks.old n false ≡ false }
     ensures { AllSays book.now session.now marks.new result }
 {
@@ -78,6 +76,7 @@ fn node_passes(book: &[u32], session: &[u32], marks: &[bool; NODE_MARKS], node: 
     }
 }
 
+// The nodes of all watches are marked, and the links of the others are 0.
 fn nodes_pass(book: &[u32], session: &[u32], marks: &[bool; NODE_MARKS]) -> bool
     requires { Looking book.now session.now }
     ensures { Says result (NodesGood book.now session.now marks.now) }

@@ -21,7 +21,7 @@ use Rattle.run.specs.Valid.{one}
 use Rattle.run.specs.Run.{clause_of, size, cell_at}
 use Rattle.layout.specs.Layout.{watches_at, watch_literal, held, head_slot, link_slot, clause_of_node, watch_slot}
 use Rattle.layout.specs.Encodes.{Chain, end_slot}
-use Rattle.validation.specs.Inner.Lists.{owner_in, Looking, ListGood, Marks, ListMarked, ListSays, Met, AllSays}
+use Rattle.validation.specs.Inner.Lists.{owner_in, Looking, ListGood, node_marks, ListMarked, ListSays, Met, AllSays}
 use Rattle.layout.proofs.ChainLaws.{end_slot_more}
 use Rattle.validation.proofs.cells.Laws.{held_cell_lem, size_is}
 use Rattle.validation.proofs.places.Laws.{Room}
@@ -134,7 +134,7 @@ module _ (v c : ℕ) (numbers : List ℕ) where
 
 -- the walk along the list of l: some nodes are passed and marked, and `node` is next
 pub record ListWalk (book numbers : List ℕ) (before marks : List Bool) (l node : ℕ) : Type 0 where
-  pub long : Marks marks
+  pub long : length marks ≡ node_marks
   pub passed : List ℕ
   pub upto : Upto (variables_of book) (clauses_of book) numbers (head_slot (variables_of book) (clauses_of book) l) passed
   pub next : get_or numbers (end_slot (variables_of book) (clauses_of book) (head_slot (variables_of book) (clauses_of book) l) passed) 0 ≡ node
@@ -143,7 +143,7 @@ pub record ListWalk (book numbers : List ℕ) (before marks : List Bool) (l node
   pub marked : (n : ℕ) → one (get_or marks n false) ≡ one (get_or before n false) + times n passed
 
 module _ (book numbers : List ℕ) (before : List Bool) (l : ℕ) where
-  pub walking_start : (head : ℕ) → Marks before → head ≡ head_slot (variables_of book) (clauses_of book) l → ListWalk book numbers before before l (get_or numbers head 0)
+  pub walking_start : (head : ℕ) → length before ≡ node_marks → head ≡ head_slot (variables_of book) (clauses_of book) l → ListWalk book numbers before before l (get_or numbers head 0)
   unfolding times
   walking_start head long e =
       record {
@@ -160,7 +160,6 @@ module _ (book numbers : List ℕ) (before : List Bool) (l : ℕ) where
     pub walking_end : node ≡ 0 → ListSays book numbers before marks l true
     walking_end e =
         record {
-          long = w.long;
           yes =
               λ r.
               record {
@@ -201,7 +200,7 @@ module _ (book numbers : List ℕ) (before : List Bool) (l : ℕ) where
       pub walking_stops : (node ≤ 2 * clauses_of book → owner_in book numbers node ≡ Some l → get_or marks node false ≡ false → ⊥)
           → ListSays book numbers before marks l false
       walking_stops bad =
-          record { long = w.long; yes = λ r. absurd (never r refl); no = λ r good. let next = next-good good in bad next.1 next.2 next.3 }
+          record { yes = λ r. absurd (never r refl); no = λ r good. let next = next-good good in bad next.1 next.2 next.3 }
 
       pub list_walk_more : (link : ℕ) → node ≤ 2 * clauses_of book → clauses_of book ≤ max_clauses → owner_in book numbers node ≡ Some l → get_or marks node false ≡ false
           → link ≡ link_slot (variables_of book) (clauses_of book) node → ListWalk book numbers before (set marks node true) l (get_or numbers link 0)
@@ -241,20 +240,18 @@ module _ (book numbers : List ℕ) (before : List Bool) (l : ℕ) where
 
 -- the loop over the literals: the lists of those below l are good, and the nodes of the others are not marked
 pub record Through (book numbers : List ℕ) (marks : List Bool) (l : ℕ) : Type 0 where
-  pub long : Marks marks
   pub met : (j : ℕ) → 2 ≤ j → j < l → Met book numbers marks j
   pub clean : (n j : ℕ) → owner_in book numbers n ≡ Some j → l ≤ j → get_or marks n false ≡ false
 
 module _ (book numbers : List ℕ) (marks : List Bool) (l : ℕ) (t : Through book numbers marks l) where
   pub through_end : 2 * variables_of book + 1 < l → AllSays book numbers marks true
   through_end h =
-      record { long = t.long; yes = λ r j a b. t.met j a (omega arith); no = λ r. absurd (never refl r) }
+      record { yes = λ r j a b. t.met j a (omega arith); no = λ r. absurd (never refl r) }
 
   module _ (after : List Bool) where
     pub through_more : (r : Bool) → r ≡ true → ListSays book numbers marks after l r → Through book numbers after (l + 1)
     through_more r passed says =
         record {
-          long = says.long;
           met = λ j a b. ⊎_elim (earlier j a) (λ h. let same : j ≡ l = omega arith in rw same now-met) (below j l);
           clean =
               λ n j own h.

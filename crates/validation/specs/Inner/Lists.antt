@@ -1,5 +1,5 @@
 -- What the contracts of src/lists.rt cite: the owner of a node, good lists and good nodes, and their marks.
-use Rattle.std.specs.Prelude.{ℕ, ◌≤◌, ◌<◌, ◌+◌, ◌*◌, ◌≡◌, Bool, true, false, cond, Option, Some, None, List, get_or, length, leb}
+use Rattle.std.specs.Prelude.{ℕ, ◌≤◌, ◌<◌, ◌+◌, ◌*◌, ◌≡◌, Bool, true, false, cond, Option, Some, None, List, get_or, leb}
 use Rattle.base.specs.Lists.{times}
 use Rattle.book.specs.Formula.{Formula, max_clauses}
 use Rattle.run.specs.Run.{size, list_of}
@@ -36,16 +36,12 @@ pub record ListGood (book numbers : List ℕ) (l : ℕ) : Type 0 where
 abbrev pub node_marks : ℕ
 node_marks = 2 * max_clauses + 1
 
-abbrev pub Marks : List Bool → Type 0
-Marks marks = length marks ≡ node_marks
-
 -- the nodes of a list that passed are marked
 pub record ListMarked (book numbers : List ℕ) (before after : List Bool) (l : ℕ) : Type 0 where
   pub good : ListGood book numbers l
   pub marked : (n : ℕ) → one (get_or after n false) ≡ one (get_or before n false) + times n good.nodes
 
 pub record ListSays (book numbers : List ℕ) (before after : List Bool) (l : ℕ) (r : Bool) : Type 0 where
-  pub long : Marks after
   pub yes : r ≡ true → ListMarked book numbers before after l
   pub no : r ≡ false → ListGood book numbers l → ⊥
 
@@ -55,7 +51,6 @@ pub record Met (book numbers : List ℕ) (marks : List Bool) (l : ℕ) : Type 0 
   pub exact : (n : ℕ) → owner_in book numbers n ≡ Some l → one (get_or marks n false) ≡ times n good.nodes
 
 pub record AllSays (book numbers : List ℕ) (marks : List Bool) (r : Bool) : Type 0 where
-  pub long : Marks marks
   pub yes : r ≡ true → (l : ℕ) → 2 ≤ l → l ≤ 2 * variables_of book + 1 → Met book numbers marks l
   pub no : r ≡ false → ((l : ℕ) → 2 ≤ l → l ≤ 2 * variables_of book + 1 → ListGood book numbers l) → ⊥
 
