@@ -1,4 +1,5 @@
 -- The laws of `validation` that proofs cite.
+pub mod AllLaws
 pub mod ConditionLaws
 pub mod PassLaws
 pub mod ReadLaws

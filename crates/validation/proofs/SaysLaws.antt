@@ -1,11 +1,10 @@
 -- Answers to questions: of a constant, of a test, and of a question that means the same.
 use Prim.Native.Nat.{ℕ, ◌≤◌, ◌<◌}
 use mathlib.Core.Bool.{Bool, true, false}
-use mathlib.Core.Logic.{⊎_elim}
 use mathlib.Core.Path.{◌≡◌, refl}
 use borrow.Author.Tests.{ltb-true, ltb-false, leb-true, leb-false, eqb-true, eqb-false}
 use lib.Dec.{leb, ltb, eqb}
-use Rattle.base.proofs.Bools.{true_or_false, never, same_test}
+use Rattle.base.proofs.Bools.{never}
 use Rattle.validation.specs.Inner.Says.{Says}
 
 module _ {P : Type 0} where
@@ -14,6 +13,10 @@ module _ {P : Type 0} where
 
   pub says_false : (P → ⊥) → Says false P
   says_false n = record { yes = λ e. absurd (never e refl); no = λ _. n }
+
+  -- an answer that is no is right where the question does not hold
+  pub says_not : {r : Bool} → r ≡ false → (P → ⊥) → Says r P
+  says_not is n = rw is (says_false n)
 
   pub says_below : (a b : ℕ) → (a < b → P) → (b ≤ a → P → ⊥) → Says (ltb a b) P
   says_below a b p n = record { yes = λ e. p (ltb-true a b e); no = λ e. n (ltb-false a b e) }
@@ -26,8 +29,3 @@ module _ {P : Type 0} where
 
   pub says_alike : {Q : Type 0} {r : Bool} → (P → Q) → (Q → P) → Says r P → Says r Q
   says_alike to from s = record { yes = λ e. to (s.yes e); no = λ e q. s.no e (from q) }
-
-  -- the answer is a test that means the same
-  pub says_test : {r t : Bool} → (P → t ≡ true) → (t ≡ true → P) → Says r P → r ≡ t
-  says_test {r} {t} to from s =
-      same_test r t (λ e. to (s.yes e)) (λ e. ⊎_elim (λ yes. yes) (λ no. absurd (s.no no (from e))) (true_or_false r))

@@ -17,7 +17,7 @@ use Rattle.run.specs.Valid.{Justified, Valid}
 use Rattle.run.proofs.Clauses.{clause_exists}
 use Rattle.run.proofs.Propagation.{valid_structure}
 use Rattle.run.proofs.Validity.{trail_short}
-use Rattle.layout.specs.Layout.{length_at, decisions_at, conflict_at, checks_at, SessionFits, required_length, held}
+use Rattle.layout.specs.Layout.{length_at, conflict_at, checks_at, required_length, held}
 use Rattle.refusals.specs.declared.Refusal.TheVariants as refusal
 use Rattle.refusals.proofs.OutcomeLaws.{accepted_as}
 use Rattle.refusals.specs.Refusals.{refusals, first_with, refusal_of, checked}
@@ -26,62 +26,28 @@ use Rattle.layout.specs.Encodes.{Encodes}
 use Rattle.validation.specs.Inner.Header.{HeaderGood}
 use Rattle.validation.specs.Inner.Trail.{TrailGood}
 use Rattle.validation.specs.Inner.Cells.{CellsGood}
-use Rattle.validation.specs.Inner.Lists.{ListsGood}
-use Rattle.validation.specs.Inner.Fixpoint.{FixpointOn}
-use Rattle.validation.specs.Inner.Conflict.{AllFalse}
+use Rattle.validation.specs.Inner.Lists.{ListsGood, Looking}
+use Rattle.validation.specs.Inner.Session.{ConflictGood}
 use Rattle.validation.proofs.cells.Laws.{held_check}
 use Rattle.validation.proofs.trail.Laws.{held_length}
-use Rattle.layout.proofs.FitsLaws.{held_fits}
+use Rattle.layout.proofs.FitsLaws.{held_fits, session_fits}
 use Rattle.layout.proofs.HeldLaws.{length_cells, length_lists}
 use Rattle.validation.proofs.PassLaws.{passes_encodes}
 
--- the conditions that a session has to meet in conflict and out of it
-pub record Built (book numbers : List ℕ) : Type 0 where
-  pub enough : SessionFits book numbers
+-- the conditions that the parts of the code test
+pub record PartsPass (book numbers : List ℕ) : Type 0 where
+  pub long : required_length (variables_of book) (clauses_of book) ≤ length numbers
   pub header : HeaderGood (clauses_of book) numbers
   pub trail : TrailGood (variables_of book) numbers
   pub reasons : Justified (formula_of book) (held (formula_of book) numbers).trail
   pub cells : CellsGood (formula_of book) numbers
   pub lists : ListsGood (formula_of book) numbers
-
--- all conditions
-pub record PartsPass (book numbers : List ℕ) : Type 0 where
-  pub built : Built book numbers
-  pub quiet : get_or numbers conflict_at 0 ≡ 0 → FixpointOn (formula_of book) numbers false
-  pub conflict : 0 < get_or numbers conflict_at 0 → AllFalse (formula_of book) numbers (get_or numbers conflict_at 0 - 1)
-  pub lower : 0 < get_or numbers conflict_at 0 → 0 < get_or numbers decisions_at 0 → FixpointOn (formula_of book) numbers true
-
--- what is read of the book, and the conditions at it
-module _ (book numbers : List ℕ) (v : ℕ) (is : v ≡ variables_of book) where
-  pub short_at : (n : ℕ) → n ≡ clauses_of book → length numbers < required_length v n → PartsPass book numbers → ⊥
-  short_at n clauses short p = omega (arith, p.built.enough.long)
-
-  pub trail_to : TrailGood v numbers → TrailGood (variables_of book) numbers
-  trail_to good = rw is at good
-
-  pub trail_from : TrailGood (variables_of book) numbers → TrailGood v numbers
-  trail_from good = rw is good
-
--- the header, by the number of clauses that is read
-module _ (book numbers : List ℕ) (n : ℕ) (is : n ≡ clauses_of book) where
-  pub header_to : HeaderGood n numbers → HeaderGood (clauses_of book) numbers
-  header_to good = rw is at good
-
-  pub header_from : HeaderGood (clauses_of book) numbers → HeaderGood n numbers
-  header_from good = rw is good
-
--- the conflict clause by the number that names it
-module _ (book numbers : List ℕ) (k : ℕ) (is : k ≡ get_or numbers conflict_at 0) where
-  pub conflict_to : AllFalse (formula_of book) numbers (k - 1) → AllFalse (formula_of book) numbers (get_or numbers conflict_at 0 - 1)
-  conflict_to all = rw is at all
-
-  pub conflict_from : AllFalse (formula_of book) numbers (get_or numbers conflict_at 0 - 1) → AllFalse (formula_of book) numbers (k - 1)
-  conflict_from all = rw is all
+  pub conflict : ConflictGood book numbers
 
 module _ (book numbers : List ℕ) (well : well_formed book ≡ true) where
   module _ (p : PartsPass book numbers) where
     long-checks : length (formula_of book).clauses ≤ length (drop (checks_at (variables_of book) (length (formula_of book).clauses)) numbers)
-    long-checks = rw length-drop (omega (arith, p.built.enough.long, clauses_counted book))
+    long-checks = rw length-drop (omega (arith, p.long, clauses_counted book))
 
     checks-long : length (held (formula_of book) numbers).checks ≡ length (formula_of book).clauses
     unfolding held
@@ -101,12 +67,12 @@ module _ (book numbers : List ℕ) (well : well_formed book ≡ true) where
     unfolding held
     parts_encodes =
         record {
-          long = omega (arith, p.built.enough.long, clauses_counted book);
-          trail = p.built.trail.is_held;
+          long = omega (arith, p.long, clauses_counted book);
+          trail = p.trail.is_held;
           conflict = refl;
           backtracks = refl;
           fixed = refl;
-          watches = p.built.lists.is_held;
+          watches = p.lists.is_held;
           checks = λ c h. sym (held_check (formula_of book) numbers c h);
         }
 
@@ -114,22 +80,22 @@ module _ (book numbers : List ℕ) (well : well_formed book ≡ true) where
     unfolding held
     parts-valid small =
         record {
-          trail_within_lem = p.built.trail.within;
+          trail_within_lem = p.trail.within;
           cells_length = length_cells (variables_of book) (length (formula_of book).clauses) numbers 0 (length (formula_of book).clauses);
           lists_length =
               let rest = length_lists (variables_of book) (length (formula_of book).clauses) numbers 0 (2 * variables_of book) in omega arith;
           checks_length = checks-long;
           checks_within_lem = checks-small small;
-          backtracks_within_lem = p.built.header.backtracks_within_lem;
-          fixed_within_lem = omega (arith, p.built.header.fixed_within_lem, p.built.trail.is_held.decided);
-          trail_distinct = p.built.trail.once;
-          justified = p.built.reasons;
-          watching = p.built.cells.watching;
-          unwatched = p.built.cells.unwatched;
-          listed = p.built.lists.listed;
-          fixpoint = p.quiet;
-          conflict_false = λ c e. rw (before c e) at (p.conflict (omega arith));
-          fixpoint_below = λ c e some. p.lower (omega arith) (omega (arith, p.built.trail.is_held.decided));
+          backtracks_within_lem = p.header.backtracks_within_lem;
+          fixed_within_lem = omega (arith, p.header.fixed_within_lem, p.trail.is_held.decided);
+          trail_distinct = p.trail.once;
+          justified = p.reasons;
+          watching = p.cells.watching;
+          unwatched = p.cells.unwatched;
+          listed = p.lists.listed;
+          fixpoint = p.conflict.quiet;
+          conflict_false = λ c e. rw (before c e) at (p.conflict.conflict (omega arith));
+          fixpoint_below = λ c e some. p.conflict.lower (omega arith) (omega (arith, p.trail.is_held.decided));
         }
       where
         before : (c : ℕ) → get_or numbers conflict_at 0 ≡ suc c → get_or numbers conflict_at 0 - 1 ≡ c
@@ -144,29 +110,29 @@ module _ (book numbers : List ℕ) (well : well_formed book ≡ true) where
   unfolding held
   valid_parts v e =
       record {
-        built =
+        long = (held_fits well e).long;
+        header =
             record {
-              enough = held_fits well e;
-              header =
-                  record {
-                    conflict_within = within (below 0 (get_or numbers conflict_at 0));
-                    backtracks_within_lem = v.backtracks_within_lem;
-                    fixed_within_lem = omega (arith, v.fixed_within_lem, e.trail.decided);
-                  };
-              trail =
-                  record {
-                    count_within = rw (held_length (variables_of book) numbers (get_or numbers length_at 0)) at (trail_short (valid_structure v).trailed);
-                    is_held = e.trail;
-                    within = v.trail_within_lem;
-                    once = v.trail_distinct;
-                  };
-              reasons = v.justified;
-              cells = record { watching = v.watching; unwatched = v.unwatched };
-              lists = record { is_held = e.watches; listed = v.listed };
+              conflict_within = within (below 0 (get_or numbers conflict_at 0));
+              backtracks_within_lem = v.backtracks_within_lem;
+              fixed_within_lem = omega (arith, v.fixed_within_lem, e.trail.decided);
             };
-        quiet = v.fixpoint;
-        conflict = λ some. v.conflict_false (get_or numbers conflict_at 0 - 1) (next some);
-        lower = λ some top. v.fixpoint_below (get_or numbers conflict_at 0 - 1) (next some) (omega (arith, e.trail.decided));
+        trail =
+            record {
+              count_within = rw (held_length (variables_of book) numbers (get_or numbers length_at 0)) at (trail_short (valid_structure v).trailed);
+              is_held = e.trail;
+              within = v.trail_within_lem;
+              once = v.trail_distinct;
+            };
+        reasons = v.justified;
+        cells = record { watching = v.watching; unwatched = v.unwatched };
+        lists = record { is_held = e.watches; listed = v.listed };
+        conflict =
+            record {
+              quiet = v.fixpoint;
+              conflict = λ some. v.conflict_false (get_or numbers conflict_at 0 - 1) (next some);
+              lower = λ some top. v.fixpoint_below (get_or numbers conflict_at 0 - 1) (next some) (omega (arith, e.trail.decided));
+            };
       }
     where
       next : 0 < get_or numbers conflict_at 0 → get_or numbers conflict_at 0 ≡ suc (get_or numbers conflict_at 0 - 1)
@@ -183,8 +149,22 @@ module _ (book numbers : List ℕ) (well : well_formed book ≡ true) where
       let k = (passes_encodes (formula_of book) (well_formed_sound book well) numbers).0 e in
       valid_parts k.0 k.1
 
-  pub parts_fail : (PartsPass book numbers → ⊥) → false ≡ passes (formula_of book) numbers
-  parts_fail never = sym (refuted (passes (formula_of book) numbers) (λ e. never (passes_parts e)))
+  pub parts_fail : (PartsPass book numbers → ⊥) → passes (formula_of book) numbers ≡ false
+  parts_fail never = refuted (passes (formula_of book) numbers) (λ e. never (passes_parts e))
+
+  -- the parts of the code that stand on others
+  pub looking : required_length (variables_of book) (clauses_of book) ≤ length numbers → CellsGood (formula_of book) numbers → Looking book numbers
+  looking long cells =
+      record { well = well; fits = session_fits (variables_of book) (clauses_of book) refl refl (record { well = well; long = long }); cells = cells }
+
+  pub all_pass : ((i : ℕ) → get_or numbers i 0 < 4294967296) → required_length (variables_of book) (clauses_of book) ≤ length numbers
+      → HeaderGood (clauses_of book) numbers → TrailGood (variables_of book) numbers
+      → Justified (formula_of book) (held (formula_of book) numbers).trail → CellsGood (formula_of book) numbers → ListsGood (formula_of book) numbers
+      → ConflictGood book numbers → passes (formula_of book) numbers ≡ true
+  all_pass small long header trail reasons cells lists conflict =
+      parts_pass
+      (record { long = long; header = header; trail = trail; reasons = reasons; cells = cells; lists = lists; conflict = conflict })
+      (λ i. omega (arith, small i))
 
 -- 11, then 12
 module _ (book session : List ℕ) where

@@ -8,4 +8,5 @@ pub mod Places
 pub mod Read
 pub mod Reasons
 pub mod Says
+pub mod Session
 pub mod Trail

@@ -7,37 +7,24 @@ ghost use Rattle.validation.specs.Inner.Says.{Says};
 ghost use Rattle.validation.specs.Inner.Cells.{CellsGood};
 
 use layout::offsets::{pointers_at, watches_at};
-use layout::values::{clause_start, wide};
+use layout::values::clause;
 
 // The watches and the pointer of a clause of n literals.
+#[tactic(auto, unfolding(crate::specs::Validation::is_watching))]
 fn cell_passes(n: usize, first: u32, second: u32, pointer: u32) -> bool
     ensures { result ≡ is_watching n (record { first = first; second = second; pointer = pointer }) }
 {
     if n < 2 {
-        if first != 0 {
-            return false;
-        }
-        if second != 0 {
-            return false;
-        }
-        return pointer == 0;
+        return first == 0 && second == 0 && pointer == 0;
     }
-    if wide(first) >= n {
-        return false;
-    }
-    if wide(second) >= n {
-        return false;
-    }
-    if first == second {
-        return false;
-    }
-    if pointer == first {
-        return true;
-    }
-    pointer == second
+    (first as usize) < n
+        && (second as usize) < n
+        && first != second
+        && (pointer == first || pointer == second)
 }
 
 // The watches and pointers of all clauses.
+#[tactic(auto, using(book::proofs::WellFormedLaws::well_formed_limited))]
 pub(crate) fn cells_pass(book: &[u32], session: &[u32]) -> bool
     requires { SessionFits book.now session.now }
     ensures { Says result (CellsGood (formula_of book.now) session.now) }
@@ -46,18 +33,12 @@ pub(crate) fn cells_pass(book: &[u32], session: &[u32]) -> bool
     let clauses = book::clauses(book);
     let watches = watches_at(variables);
     let pointers = pointers_at(variables, clauses);
-    let mut c = 0;
-    while c < clauses {
-        let n = clause_start(book, c + 1) - clause_start(book, c);
-        if !cell_passes(
-            n,
+    (0..clauses).all(|c| {
+        cell_passes(
+            clause(book, c).len(),
             session[watches + 2 * c],
             session[watches + 2 * c + 1],
             session[pointers + c],
-        ) {
-            return false;
-        }
-        c += 1;
-    }
-    true
+        )
+    })
 }

@@ -5,7 +5,7 @@ ghost use Rattle.validation.specs.Inner.Says.{Says};
 ghost use Rattle.validation.specs.Inner.Trail.{TrailGood, PlaceGood, PlaceFree, ValueGood};
 
 use layout::offsets::{DECISIONS, LENGTH, TRAIL, levels_at, value_slot, values_at};
-use layout::values::{level_before, wide};
+use layout::values::level_before;
 
 // Whether a place of the trail holds a literal of the variables, at the level before it or one more, whose value says that place.
 fn place_passes(session: &[u32], variables: usize, i: usize) -> bool
@@ -13,25 +13,13 @@ fn place_passes(session: &[u32], variables: usize, i: usize) -> bool
     ensures { Says result (PlaceGood variables session.now i) }
 {
     let literal = session[TRAIL + i];
-    if literal < 2 {
-        return false;
-    }
-    if wide(literal) > 2 * variables + 1 {
-        return false;
-    }
     let level = session[levels_at(variables) + i];
     let before = level_before(session, variables, i);
-    if level < before {
-        return false;
-    }
-    if level - before > 1 {
-        return false;
-    }
-    let value = session[value_slot(variables, literal)];
-    if wide(value) != 2 * (i + 1) + wide(literal % 2) {
-        return false;
-    }
-    true
+    2 <= literal
+        && literal as usize <= 2 * variables + 1
+        && before <= level
+        && level - before <= 1
+        && session[value_slot(variables, literal)] as usize == 2 * (i + 1) + literal as usize % 2
 }
 
 // Whether each place of the trail does.
@@ -39,14 +27,7 @@ fn places_pass(session: &[u32], variables: usize, count: usize) -> bool
     requires { TrailFits variables session.now × (count ≤ variables) }
     ensures { Says result ((i : ℕ) → i < count → PlaceGood variables session.now i) }
 {
-    let mut i = 0;
-    while i < count {
-        if !place_passes(session, variables, i) {
-            return false;
-        }
-        i += 1;
-    }
-    true
+    (0..count).all(|i| place_passes(session, variables, i))
 }
 
 // Whether nothing lies behind the end of the trail.
@@ -55,17 +36,7 @@ fn rest_passes(session: &[u32], variables: usize, count: usize) -> bool
     ensures { Says result ((i : ℕ) → count ≤ i → i < variables → PlaceFree variables session.now i) }
 {
     let levels = levels_at(variables);
-    let mut i = count;
-    while i < variables {
-        if session[TRAIL + i] != 0 {
-            return false;
-        }
-        if session[levels + i] != 0 {
-            return false;
-        }
-        i += 1;
-    }
-    true
+    (count..variables).all(|i| session[TRAIL + i] == 0 && session[levels + i] == 0)
 }
 
 // Whether a variable is open, or its value says a place of the trail that holds its literal.
@@ -74,20 +45,11 @@ fn value_passes(session: &[u32], variables: usize, x: usize) -> bool
     ensures { Says result (ValueGood variables session.now x) }
 {
     let value = session[values_at(variables) + x];
-    if value == 0 {
-        return true;
-    }
-    if value < 2 {
-        return false;
-    }
-    if value / 2 > session[LENGTH] {
-        return false;
-    }
-    let literal = session[TRAIL + (wide(value / 2) - 1)];
-    if wide(literal) != 2 * (x + 1) + wide(value % 2) {
-        return false;
-    }
-    true
+    value == 0
+        || (2 <= value
+            && value / 2 <= session[LENGTH]
+            && session[TRAIL + (value as usize / 2 - 1)] as usize
+                == 2 * (x + 1) + value as usize % 2)
 }
 
 // Whether each variable does.
@@ -95,14 +57,7 @@ fn values_pass(session: &[u32], variables: usize) -> bool
     requires { TrailFits variables session.now × (get_or session.now length_at 0 ≤ variables) }
     ensures { Says result ((x : ℕ) → x < variables → ValueGood variables session.now x) }
 {
-    let mut x = 0;
-    while x < variables {
-        if !value_passes(session, variables, x) {
-            return false;
-        }
-        x += 1;
-    }
-    true
+    (0..variables).all(|x| value_passes(session, variables, x))
 }
 
 // Whether header, trail, levels and values are those of a trail.
@@ -110,19 +65,10 @@ pub(crate) fn trail_passes(session: &[u32], variables: usize) -> bool
     requires { (1 ≤ variables) × TrailFits variables session.now }
     ensures { Says result (TrailGood variables session.now) }
 {
-    let count = wide(session[LENGTH]);
-    if count > variables {
-        return false;
-    }
-    let last = level_before(session, variables, count);
-    if session[DECISIONS] != last {
-        return false;
-    }
-    if !places_pass(session, variables, count) {
-        return false;
-    }
-    if !rest_passes(session, variables, count) {
-        return false;
-    }
-    values_pass(session, variables)
+    let count = session[LENGTH] as usize;
+    count <= variables
+        && session[DECISIONS] == level_before(session, variables, count)
+        && places_pass(session, variables, count)
+        && rest_passes(session, variables, count)
+        && values_pass(session, variables)
 }

@@ -1,4 +1,5 @@
 -- Heads and links are good exactly where the list of every literal is, every node of a watch is in one, and the other links are 0.
+use Rattle.std.specs.Prelude.{Option, Some, None, unwrap_or}
 use Prim.Native.Nat.{ℕ, zero, suc, ◌+◌, ◌*◌, ◌%◌, ◌≤◌, ◌<◌}
 use native.Mathlib.Omega.{arith}
 use mathlib.Core.Bool.{Bool, true, false}
@@ -31,7 +32,7 @@ use Rattle.validation.proofs.cells.Laws.{held_cell_lem, held_cells_length}
 use Rattle.layout.proofs.ChainLaws.{node_cases, node_clause, node_positive, node_within, AtNode, at_node, node_literal, watched_once}
 use Rattle.base.proofs.ForAll.{member-times}
 use Rattle.layout.proofs.HeldLaws.{length_lists, get_or_lists, chain_held}
-use Rattle.validation.proofs.SaysLaws.{says_false, says_alike}
+use Rattle.validation.proofs.SaysLaws.{says_not, says_alike}
 use Rattle.base.proofs.Occurrences.{times_more, map_back, times-map_least, times-map_is, times-map_in, once_distinct}
 
 -- the clause of a node
@@ -101,6 +102,10 @@ times_halves c (n ∷ nodes) low =
     go (inr e) (inr f) h =
         omega (arith, some, times_other c (clause_of_node n) (map clause_of_node nodes) (λ z. let s = some in ⊎_elim (λ k. f (omega arith)) (λ k. e (omega arith)) (alike (n % 2) 0)), times_other (2 * c + 1) n nodes (λ z. e (sym z)), times_other (2 * c + 2) n nodes (λ z. f (sym z)))
 
+marked_is : {b : Bool} → 0 < one b → b ≡ true
+marked_is {b = true} h = refl
+marked_is {b = false} h = absurd (omega arith)
+
 module _ (book numbers : List ℕ) (k : Looking book numbers) where
   abbrev formula : Formula
   formula = formula_of book
@@ -111,8 +116,19 @@ module _ (book numbers : List ℕ) (k : Looking book numbers) where
   abbrev lists : List (List ℕ)
   lists = (held (formula_of book) numbers).lists
 
-  abbrev owner : ℕ → ℕ
+  abbrev owner : ℕ → Option ℕ
   owner = owner_in book numbers
+
+  -- the same as a number, 0 for none
+  abbrev owner_number : ℕ → ℕ
+  owner_number n = unwrap_or (owner n) 0
+
+  some_number : (n l : ℕ) → 1 ≤ l → l ≡ owner_number n → owner n ≡ Some l
+  some_number n l low e = go (owner n) refl
+    where
+      go : (o : Option ℕ) → owner n ≡ o → owner n ≡ Some l
+      go None own = absurd (let z : l ≡ 0 = e ∙ ap (λ (x : Option ℕ). unwrap_or x 0) own in omega arith)
+      go (Some m) own = own ∙ ap Some (sym (e ∙ ap (λ (x : Option ℕ). unwrap_or x 0) own))
 
   s : sound formula ≡ true
   s = well_formed_sound book k.well
@@ -121,66 +137,68 @@ module _ (book numbers : List ℕ) (k : Looking book numbers) where
   many_is = clauses_counted book
 
   -- the literal of a node, by its clause
-  owner_few : (n : ℕ) → size formula (clause_of_node n) < 2 → owner n ≡ 0
+  owner_few : (n : ℕ) → size formula (clause_of_node n) < 2 → owner n ≡ None
   unfolding owner_in
   owner_few n h = rw (lt-leb 2 (size formula (clause_of_node n)) h)
 
-  owner_two : (n : ℕ) → 2 ≤ size formula (clause_of_node n) → owner n ≡ watch_literal formula cells n
+  owner_two : (n : ℕ) → 2 ≤ size formula (clause_of_node n) → owner n ≡ Some (watch_literal formula cells n)
   unfolding owner_in
   owner_two n h = rw (le-leb 2 (size formula (clause_of_node n)) h)
 
-  owner_first : (c : ℕ) → 2 ≤ size formula c → owner (2 * c + 1) ≡ first_literal formula cells c
+  owner_first : (c : ℕ) → 2 ≤ size formula c → owner (2 * c + 1) ≡ Some (first_literal formula cells c)
   unfolding watch_literal
   owner_first c two =
       let h : clause_of_node (2 * c + 1) ≡ c = omega arith in
       let odd : (2 * c + 1) % 2 ≡ 1 = omega arith in
       owner_two (2 * c + 1) (rw h two) ∙ rw (eq-eqb ((2 * c + 1) % 2) 1 odd, h)
 
-  owner_second : (c : ℕ) → 2 ≤ size formula c → owner (2 * c + 2) ≡ second_literal formula cells c
+  owner_second : (c : ℕ) → 2 ≤ size formula c → owner (2 * c + 2) ≡ Some (second_literal formula cells c)
   unfolding watch_literal
   owner_second c two =
       let h : clause_of_node (2 * c + 2) ≡ c = omega arith in
       let even : (2 * c + 2) % 2 ≡ 1 → ⊥ = λ e. omega arith in
       owner_two (2 * c + 2) (rw h two) ∙ rw (ne_eqb ((2 * c + 2) % 2) 1 even, h)
 
-  owned_two : (n : ℕ) → (owner n ≡ 0 → ⊥) → 2 ≤ size formula (clause_of_node n)
-  owned_two n h = ⊎_elim (λ z. absurd (h (owner_few n z))) (λ z. z) (below (size formula (clause_of_node n)) 2)
+  owned_two : (n l : ℕ) → owner n ≡ Some l → 2 ≤ size formula (clause_of_node n)
+  owned_two n l own = ⊎_elim (λ z. absurd (let none = owner_few n z in cc)) (λ z. z) (below (size formula (clause_of_node n)) 2)
 
-  owned_within : (n : ℕ) → (owner n ≡ 0 → ⊥) → n ≤ 2 * clauses_of book
-  owned_within n h =
-      let two = owned_two n h in
+  owned_within : (n l : ℕ) → owner n ≡ Some l → n ≤ 2 * clauses_of book
+  owned_within n l own =
+      let two = owned_two n l own in
       let inside : clause_of_node n < length formula.clauses = clause_exists formula (clause_of_node n) (omega arith) in
       omega (arith, many_is)
 
   standing_owners : (l c : ℕ) → 1 ≤ l
-      → standing formula (held formula numbers) l c ≡ one (eqb l (owner (2 * c + 1))) + one (eqb l (owner (2 * c + 2)))
+      → standing formula (held formula numbers) l c ≡ one (eqb l (owner_number (2 * c + 1))) + one (eqb l (owner_number (2 * c + 2)))
   standing_owners l c some = ⊎_elim few two (below (size formula c) 2)
     where
-      few : size formula c < 2 → standing formula (held formula numbers) l c ≡ one (eqb l (owner (2 * c + 1))) + one (eqb l (owner (2 * c + 2)))
+      few : size formula c < 2 → standing formula (held formula numbers) l c ≡ one (eqb l (owner_number (2 * c + 1))) + one (eqb l (owner_number (2 * c + 2)))
       few h =
           let a : clause_of_node (2 * c + 1) ≡ c = omega arith in
           let b : clause_of_node (2 * c + 2) ≡ c = omega arith in
           rw (lt-leb 2 (size formula c) h, owner_few (2 * c + 1) (rw a h), owner_few (2 * c + 2) (rw b h), ne_eqb l 0 (λ e. omega arith))
 
-      two : 2 ≤ size formula c → standing formula (held formula numbers) l c ≡ one (eqb l (owner (2 * c + 1))) + one (eqb l (owner (2 * c + 2)))
+      two : 2 ≤ size formula c → standing formula (held formula numbers) l c ≡ one (eqb l (owner_number (2 * c + 1))) + one (eqb l (owner_number (2 * c + 2)))
       two h = rw (le-leb 2 (size formula c) h, owner_first c h, owner_second c h)
 
-  node_back : (n l : ℕ) → 1 ≤ n → 1 ≤ l → owner n ≡ l → node_of formula cells l (clause_of_node n) ≡ n
-  node_back n l low some own = ⊎_elim odd even (alike (n % 2) 1)
+  node_back : (n l : ℕ) → 1 ≤ n → owner n ≡ Some l → node_of formula cells l (clause_of_node n) ≡ n
+  node_back n l low own = ⊎_elim odd even (alike (n % 2) 1)
     where
       two : 2 ≤ size formula (clause_of_node n)
-      two = owned_two n (λ e. omega arith)
+      two = owned_two n l own
 
       odd : n % 2 ≡ 1 → node_of formula cells l (clause_of_node n) ≡ n
       odd o =
           let is : n ≡ 2 * clause_of_node n + 1 = omega arith in
-          let first : first_literal formula cells (clause_of_node n) ≡ l = sym (owner_first (clause_of_node n) two) ∙ ap owner (sym is) ∙ own in
+          let same : Some (first_literal formula cells (clause_of_node n)) ≡ Some l = sym (owner_first (clause_of_node n) two) ∙ ap owner (sym is) ∙ own in
+          let first : first_literal formula cells (clause_of_node n) ≡ l = cc same in
           ⊎_elim (λ p. p.1 ∙ sym is) (λ p. absurd (p.0 first)) (node_cases formula cells l (clause_of_node n))
 
       even : (n % 2 ≡ 1 → ⊥) → node_of formula cells l (clause_of_node n) ≡ n
       even o =
           let is : n ≡ 2 * clause_of_node n + 2 = omega arith in
-          let second : second_literal formula cells (clause_of_node n) ≡ l = sym (owner_second (clause_of_node n) two) ∙ ap owner (sym is) ∙ own in
+          let same : Some (second_literal formula cells (clause_of_node n)) ≡ Some l = sym (owner_second (clause_of_node n) two) ∙ ap owner (sym is) ∙ own in
+          let second : second_literal formula cells (clause_of_node n) ≡ l = cc same in
           let w = k.cells.watching (clause_of_node n) two in
           ⊎_elim
           (λ p.
@@ -189,7 +207,7 @@ module _ (book numbers : List ℕ) (k : Looking book numbers) where
           (λ p. p.1 ∙ sym is) (node_cases formula cells l (clause_of_node n))
 
   -- all lists pass and all nodes: heads and links are good
-  module _ (marks : List ℕ) (met : (l : ℕ) → 2 ≤ l → l ≤ 2 * variables_of book + 1 → Met book numbers marks l) (looked : NodesGood book numbers marks) where
+  module _ (marks : List Bool) (met : (l : ℕ) → 2 ≤ l → l ≤ 2 * variables_of book + 1 → Met book numbers marks l) (looked : NodesGood book numbers marks) where
     module _ (l : ℕ) (low : 2 ≤ l) (high : l ≤ 2 * variables_of book + 1) where
       abbrev nodes : List ℕ
       nodes = (met l low high).good.nodes
@@ -204,7 +222,7 @@ module _ (book numbers : List ℕ) (k : Looking book numbers) where
 
       back-again : nodes_of formula cells l (map clause_of_node nodes) ≡ nodes
       back-again =
-          map_back (node_of formula cells l) clause_of_node nodes (λ n h. node_back n l (positive n h) (omega arith) ((met l low high).good.owned n h).2)
+          map_back (node_of formula cells l) clause_of_node nodes (λ n h. node_back n l (positive n h) ((met l low high).good.owned n h).2)
 
       chain_back : Chain formula.variables (length formula.clauses) numbers (head_slot formula.variables (length formula.clauses) l) (nodes_of formula cells l (map clause_of_node nodes))
       chain_back = rw (back-again, many_is) (met l low high).good.chain
@@ -218,21 +236,21 @@ module _ (book numbers : List ℕ) (k : Looking book numbers) where
       chain-is : Chain formula.variables (length formula.clauses) numbers (head_slot formula.variables (length formula.clauses) l) (nodes_of formula cells l (list_of lists l))
       chain-is = rw list-is chain_back
 
-      times-owned : (n : ℕ) → 1 ≤ n → times n nodes ≡ one (eqb l (owner n))
-      times-owned n first = ⊎_elim here there (alike l (owner n))
+      times-owned : (n : ℕ) → 1 ≤ n → times n nodes ≡ one (eqb l (owner_number n))
+      times-owned n first = ⊎_elim here there (alike l (owner_number n))
         where
-          here : l ≡ owner n → times n nodes ≡ one (eqb l (owner n))
+          here : l ≡ owner_number n → times n nodes ≡ one (eqb l (owner_number n))
           here e =
-              let some : owner n ≡ 0 → ⊥ = λ z. omega arith in
-              let marked : 0 < get_or marks n 0 = (looked n first (owned_within n some)).met some in
-              let exact = (met l low high).exact n (sym e) in
+              let own : owner n ≡ Some l = some_number n l (omega arith) e in
+              let marked : get_or marks n false ≡ true = (looked n first (owned_within n l own)).met l own in
+              let exact = (met l low high).exact n own in
               let once = (met l low high).good.once n in
-              rw (eq-eqb l (owner n) e) (omega arith)
+              rw (eq-eqb l (owner_number n) e) (omega (arith, ap one marked))
 
-          there : (l ≡ owner n → ⊥) → times n nodes ≡ one (eqb l (owner n))
+          there : (l ≡ owner_number n → ⊥) → times n nodes ≡ one (eqb l (owner_number n))
           there e =
-              rw (ne_eqb l (owner n) e)
-              (⊎_elim (λ h. absurd (e (sym ((met l low high).good.owned n h).2))) (λ h. omega arith) (below 0 (times n nodes)))
+              rw (ne_eqb l (owner_number n) e)
+              (⊎_elim (λ h. absurd (e (sym (ap (λ (x : Option ℕ). unwrap_or x 0) ((met l low high).good.owned n h).2)))) (λ h. omega arith) (below 0 (times n nodes)))
 
       counted : (c : ℕ) → times c (list_of lists l) ≡ standing formula (held formula numbers) l c
       counted c =
@@ -303,7 +321,7 @@ module _ (book numbers : List ℕ) (k : Looking book numbers) where
       in_list : (n : ℕ) → 0 < times n listed-nodes → 0 < times (clause_of_node n) (list_of lists l)
       in_list n h = let z = times-map_least (node_of formula cells l) clause_of_node back n (list_of lists l) in omega arith
 
-      node-owned : (n : ℕ) → 0 < times n listed-nodes → (1 ≤ n) × (n ≤ 2 * clauses_of book) × (owner n ≡ l)
+      node-owned : (n : ℕ) → 0 < times n listed-nodes → (1 ≤ n) × (n ≤ 2 * clauses_of book) × (owner n ≡ Some l)
       node-owned n h =
           let there = in_list n h in
           let is : node_of formula cells l (clause_of_node n) ≡ n = times-map_is (node_of formula cells l) clause_of_node back n (list_of lists l) h in
@@ -311,7 +329,7 @@ module _ (book numbers : List ℕ) (k : Looking book numbers) where
           let inside : clause_of_node n < length formula.clauses = clause_exists formula (clause_of_node n) (omega arith) in (
             omega (arith, node_positive formula cells l (clause_of_node n)),
             omega (arith, node_within formula cells l (clause_of_node n) (length formula.clauses) inside, many_is),
-            owner_two n two ∙ ap (watch_literal formula cells) (sym is) ∙ node_literal formula s cells lists structure l (clause_of_node n) there,
+            owner_two n two ∙ ap Some (ap (watch_literal formula cells) (sym is) ∙ node_literal formula s cells lists structure l (clause_of_node n) there),
           )
 
       listed-chain : Chain (variables_of book) (clauses_of book) numbers (head_slot (variables_of book) (clauses_of book) l) (nodes_of formula cells l (list_of lists l))
@@ -330,7 +348,7 @@ module _ (book numbers : List ℕ) (k : Looking book numbers) where
             owned = node-owned;
           }
 
-    module _ (marks : List ℕ) (met : (l : ℕ) → 2 ≤ l → l ≤ 2 * variables_of book + 1 → Met book numbers marks l) where
+    module _ (marks : List Bool) (met : (l : ℕ) → 2 ≤ l → l ≤ 2 * variables_of book + 1 → Met book numbers marks l) where
       nodes-pass : NodesGood book numbers marks
       nodes-pass n low high =
           record {
@@ -338,22 +356,19 @@ module _ (book numbers : List ℕ) (k : Looking book numbers) where
                 λ none.
                 rw many_is at
                 (good.is_held.in_lists.idle n low (omega (arith, many_is)) (⊎_elim (λ z. z) (λ z. absurd (watched-some z none)) (below (size formula (clause_of_node n)) 2)));
-            met = λ some. go (at_node formula s cells lists structure n low (owned_two n some)) (owner_two n (owned_two n some));
+            met = λ l own. go (at_node formula s cells lists structure n low (owned_two n l own)) (owner_two n (owned_two n l own));
           }
         where
-          watched-some : 2 ≤ size formula (clause_of_node n) → owner n ≡ 0 → ⊥
-          watched-some two none =
-              let at = at_node formula s cells lists structure n low two in
-              let b = literal_parts formula.variables (watch_literal formula cells n) at.within in
-              omega (arith, owner_two n two)
+          watched-some : 2 ≤ size formula (clause_of_node n) → owner n ≡ None → ⊥
+          watched-some two none = let some = owner_two n two in cc
 
-          go : AtNode formula cells lists n → owner n ≡ watch_literal formula cells n → 0 < get_or marks n 0
+          go : AtNode formula cells lists n → owner n ≡ Some (watch_literal formula cells n) → get_or marks n false ≡ true
           go at own =
               let l-in = literal_parts formula.variables (watch_literal formula cells n) at.within in
               marked (watch_literal formula cells n) l-in.0 l-in.1 own at.stands_there at.is_node
             where
-              marked : (l : ℕ) → 2 ≤ l → l ≤ 2 * variables_of book + 1 → owner n ≡ l → 0 < times (clause_of_node n) (list_of lists l)
-                  → node_of formula cells l (clause_of_node n) ≡ n → 0 < get_or marks n 0
+              marked : (l : ℕ) → 2 ≤ l → l ≤ 2 * variables_of book + 1 → owner n ≡ Some l → 0 < times (clause_of_node n) (list_of lists l)
+                  → node_of formula cells l (clause_of_node n) ≡ n → get_or marks n false ≡ true
               marked l a b own there is =
                   let m = met l a b in
                   let same : m.good.nodes ≡ nodes_of formula cells l (list_of lists l)
@@ -362,14 +377,14 @@ module _ (book numbers : List ℕ) (k : Looking book numbers) where
                   (λ x h. (m.good.owned x h).0) (λ x h. (node-owned l a b x h).0) m.good.chain (listed-chain l a b) in
                   let listed : 0 < times n (nodes_of formula cells l (list_of lists l))
                   = rw is at (times-map_in (node_of formula cells l) (clause_of_node n) (list_of lists l) there) in
-                  rw (m.exact n own, same) listed
+                  marked_is (rw (m.exact n own, same) listed)
 
 -- what lists_pass answers
-pub lists_refused : (book numbers marks : List ℕ) → Looking book numbers → (r : Bool) → r ≡ false → AllSays book numbers marks r
-    → Says false (ListsGood (formula_of book) numbers)
-lists_refused book numbers marks k r e says = says_false (λ good. says.no e (list-passes book numbers k good))
+pub lists_refused : (book numbers : List ℕ) (marks : List Bool) → Looking book numbers → (r : Bool) → r ≡ false → AllSays book numbers marks r
+    → Says r (ListsGood (formula_of book) numbers)
+lists_refused book numbers marks k r e says = says_not e (λ good. says.no e (list-passes book numbers k good))
 
-pub lists_answered : (book numbers marks : List ℕ) → Looking book numbers → (r : Bool) → r ≡ true → AllSays book numbers marks r
+pub lists_answered : (book numbers : List ℕ) (marks : List Bool) → Looking book numbers → (r : Bool) → r ≡ true → AllSays book numbers marks r
     → (answer : Bool) → Says answer (NodesGood book numbers marks) → Says answer (ListsGood (formula_of book) numbers)
 lists_answered book numbers marks k r e says answer =
     says_alike (lists-good book numbers k marks (says.yes e)) (λ good. nodes-pass book numbers k good marks (says.yes e))

@@ -1,30 +1,30 @@
--- The validation of heads and links: the literal of a node, the walk along one list, the loop over the literals, the look at the nodes.
-use Prim.Native.Nat.{ℕ, suc, ◌+◌, ◌*◌, ◌-◌, ◌%◌, ◌≤◌, ◌<◌}
+-- The validation of heads and links: the literal of a node, the walk along one list, the loop over the literals.
+use Rattle.std.specs.Prelude.{Some, None}
+use Prim.Native.Nat.{ℕ, ◌+◌, ◌*◌, ◌%◌, ◌≤◌, ◌<◌}
 use native.Mathlib.Omega.{arith}
 use mathlib.Core.Bool.{Bool, true, false, not}
 use mathlib.Core.List.{List, [], ◌∷◌, ◌++◌}
 use mathlib.Core.Logic.{⊎_elim}
 use mathlib.Core.Path.{◌≡◌, refl, sym, ap, ap₂, ◌∙◌}
-use borrow.Author.Tests.{eqb-true, eqb-false, le-leb, lt-leb, eq-eqb, ne_eqb}
-use lib.Dec.{eqb}
-use lib.ListN.{length, get_or, set, drop, length-set}
-use lib.Seq.{get_or-set_same, get_or-set_other, get_or-take, get_or-drop}
+use borrow.Author.Tests.{le-leb, lt-leb, eq-eqb, ne_eqb}
+use lib.ListN.{length, get_or, set, length-set}
+use lib.Seq.{get_or-set_same, get_or-set_other}
 use Rattle.base.specs.Lists.{times}
 use Rattle.base.proofs.Bools.{alike, below, never}
 use Rattle.base.proofs.Members.{times-same, times_other}
 use Rattle.book.specs.Formula.{max_clauses}
-use Rattle.book.specs.Numbers.{variables_of, clauses_of, start_of, clause_start, formula_of}
-use Rattle.book.proofs.PartLaws.{clauses_counted, clause_inside, clause_of_formula, length_clause}
-use Rattle.book.proofs.WellFormedLaws.{well_formed_parted}
+use Rattle.book.specs.Numbers.{variables_of, clauses_of, clause_at, formula_of}
+use Rattle.book.proofs.PartLaws.{clauses_counted, clause_of_formula}
+use Rattle.std.specs.List.{sum_by}
+use Rattle.std.proofs.lemmas.List.Sums.{sum_by-set}
+use Rattle.run.specs.Valid.{one}
 use Rattle.run.specs.Run.{clause_of, size, cell_at}
 use Rattle.layout.specs.Layout.{watches_at, watch_literal, held, head_slot, link_slot, clause_of_node, watch_slot}
 use Rattle.layout.specs.Encodes.{Chain, end_slot}
-use Rattle.validation.specs.Inner.Says.{Says}
-use Rattle.validation.specs.Inner.Lists.{owner_in, Looking, ListGood, Marks, ListMarked, ListSays, Met, AllSays, NodeGood, NodesGood}
+use Rattle.validation.specs.Inner.Lists.{owner_in, Looking, ListGood, node_marks, ListMarked, ListSays, Met, AllSays}
 use Rattle.layout.proofs.ChainLaws.{end_slot_more}
-use Rattle.validation.proofs.cells.Laws.{held_cell_lem, size_read}
+use Rattle.validation.proofs.cells.Laws.{held_cell_lem, size_is}
 use Rattle.validation.proofs.places.Laws.{Room}
-use Rattle.validation.proofs.SaysLaws.{says_true, says_false, says_equal}
 use Rattle.base.proofs.Occurrences.{times-append}
 
 -- the room of the book in the session that is looked at
@@ -32,75 +32,75 @@ pub room : {book numbers : List ℕ} {variables clauses : ℕ} → Looking book 
     → Room book numbers variables clauses
 room k e f = record { variables_are = e; clauses_are = f; fits = k.fits }
 
--- the position that the code reads
-pub position_is : (book numbers : List ℕ) (variables node slot p : ℕ) → variables ≡ variables_of book → slot ≡ watch_slot variables node
-    → p ≡ get_or numbers slot 0 → p ≡ get_or numbers (watch_slot (variables_of book) node) 0
-position_is book numbers variables node slot p e w g = g ∙ rw (w, e)
-
 -- the literal of a node
-module _ (book numbers : List ℕ) (k : Looking book numbers) (node d s e : ℕ) (low : 1 ≤ node) (high : node ≤ 2 * clauses_of book)
-    (d-is : d ≡ clause_of_node node) (begin : s ≡ clause_start book d) (end : e ≡ clause_start book (d + 1)) where
-  inside : d < clauses_of book
+module _ (book numbers : List ℕ) (k : Looking book numbers) (node : ℕ) (low : 1 ≤ node) (high : node ≤ 2 * clauses_of book) where
+  abbrev clause-read : List ℕ
+  clause-read = clause_at book (clause_of_node node)
+
+  abbrev position : ℕ
+  position = get_or numbers (watch_slot (variables_of book) node) 0
+
+  inside : clause_of_node node < clauses_of book
   inside = omega arith
 
-  size_is : size (formula_of book) d ≡ e - s
-  size_is = size_read book k.well d s e inside begin end
+  size-read : size (formula_of book) (clause_of_node node) ≡ length clause-read
+  size-read = size_is book (clause_of_node node) inside
 
-  pub owner_none : e - s < 2 → owner_in book numbers node ≡ 0
+  pub owner_none : length clause-read < 2 → owner_in book numbers node ≡ None
   unfolding owner_in
-  owner_none h =
-      let few : size (formula_of book) (clause_of_node node) < 2 = rw (← d-is, size_is) h in
-      rw (lt-leb 2 (size (formula_of book) (clause_of_node node)) few)
+  owner_none h = rw (lt-leb 2 (size (formula_of book) (clause_of_node node)) (rw size-read h))
 
-  module _ (two : 2 ≤ e - s) (p : ℕ) (p-is : p ≡ get_or numbers (watch_slot (variables_of book) node) 0) where
-    big : 2 ≤ size (formula_of book) d
-    big = rw size_is two
+  module _ (two : 2 ≤ length clause-read) where
+    big : 2 ≤ size (formula_of book) (clause_of_node node)
+    big = rw size-read two
 
     -- the watch that the node is of
-    watch-read : (p < size (formula_of book) d)
-        × (watch_literal (formula_of book) (held (formula_of book) numbers).cells node ≡ get_or (clause_of (formula_of book) d) p 0)
+    watch-read : (position < size (formula_of book) (clause_of_node node))
+        × (watch_literal (formula_of book) (held (formula_of book) numbers).cells node ≡ get_or (clause_of (formula_of book) (clause_of_node node)) position 0)
     unfolding watch_literal
     watch-read = ⊎_elim odd even (alike (node % 2) 1)
       where
-        within : d < length (formula_of book).clauses
+        within : clause_of_node node < length (formula_of book).clauses
         within = let z = inside in omega (arith, clauses_counted book)
 
         odd : node % 2 ≡ 1
-            → (p < size (formula_of book) d)
-            × (watch_literal (formula_of book) (held (formula_of book) numbers).cells node ≡ get_or (clause_of (formula_of book) d) p 0)
+            → (position < size (formula_of book) (clause_of_node node))
+            × (watch_literal (formula_of book) (held (formula_of book) numbers).cells node ≡ get_or (clause_of (formula_of book) (clause_of_node node)) position 0)
         odd o =
-            let at : watch_slot (variables_of book) node ≡ watches_at (variables_of book) + 2 * d = omega arith in
-            let first : p ≡ (cell_at (held (formula_of book) numbers).cells d).first
-            = p-is ∙ ap (λ (x : ℕ). get_or numbers x 0) at ∙ sym (ap (λ x. x.first) (held_cell_lem (formula_of book) numbers d within)) in
-            (rw first (k.cells.watching d big).first_within, rw (eq-eqb (node % 2) 1 o, ← d-is, first))
+            let at : watch_slot (variables_of book) node ≡ watches_at (variables_of book) + 2 * clause_of_node node = omega arith in
+            let first : position ≡ (cell_at (held (formula_of book) numbers).cells (clause_of_node node)).first
+            = ap (λ (x : ℕ). get_or numbers x 0) at ∙ sym (ap (λ x. x.first) (held_cell_lem (formula_of book) numbers (clause_of_node node) within)) in
+            (rw first (k.cells.watching (clause_of_node node) big).first_within, rw (eq-eqb (node % 2) 1 o, first))
 
         even : (node % 2 ≡ 1 → ⊥)
-            → (p < size (formula_of book) d)
-            × (watch_literal (formula_of book) (held (formula_of book) numbers).cells node ≡ get_or (clause_of (formula_of book) d) p 0)
+            → (position < size (formula_of book) (clause_of_node node))
+            × (watch_literal (formula_of book) (held (formula_of book) numbers).cells node ≡ get_or (clause_of (formula_of book) (clause_of_node node)) position 0)
         even o =
-            let at : watch_slot (variables_of book) node ≡ watches_at (variables_of book) + 2 * d + 1 = omega arith in
-            let second : p ≡ (cell_at (held (formula_of book) numbers).cells d).second
-            = p-is ∙ ap (λ (x : ℕ). get_or numbers x 0) at ∙ sym (ap (λ x. x.second) (held_cell_lem (formula_of book) numbers d within)) in
-            (rw second (k.cells.watching d big).second_within, rw (ne_eqb (node % 2) 1 o, ← d-is, second))
+            let at : watch_slot (variables_of book) node ≡ watches_at (variables_of book) + 2 * clause_of_node node + 1 = omega arith in
+            let second : position ≡ (cell_at (held (formula_of book) numbers).cells (clause_of_node node)).second
+            = ap (λ (x : ℕ). get_or numbers x 0) at ∙ sym (ap (λ x. x.second) (held_cell_lem (formula_of book) numbers (clause_of_node node) within)) in
+            (rw second (k.cells.watching (clause_of_node node) big).second_within, rw (ne_eqb (node % 2) 1 o, second))
 
-    owner-within : s + p < e
-    owner-within = let z = watch-read.0 in omega (arith, size_is)
+    pub position_within : position < length clause-read
+    position_within = rw size-read at watch-read.0
 
-    owner-some : owner_in book numbers node ≡ get_or book (s + p) 0
+    pub owner_some : owner_in book numbers node ≡ Some (get_or clause-read position 0)
     unfolding owner_in
-    owner-some =
-        let many : 2 ≤ size (formula_of book) (clause_of_node node) = rw (← d-is) big in
-        let shorter : p < start_of book (suc d) - start_of book d
-        = rw (ap length (clause_of_formula book d inside) ∙ length_clause book (well_formed_parted book k.well) d inside) at watch-read.0 in
-        rw (le-leb 2 (size (formula_of book) (clause_of_node node)) many)
-        (watch-read.1 ∙ ap (λ (xs : List ℕ). get_or xs p 0) (clause_of_formula book d inside)
-        ∙ get_or-take (start_of book (suc d) - start_of book d) (drop (clause_start book d) book) p 0 shorter
-        ∙ get_or-drop (clause_start book d) book p 0 ∙ ap (λ (x : ℕ). get_or book (x + p) 0) (sym begin))
+    owner_some =
+        rw (le-leb 2 (size (formula_of book) (clause_of_node node)) big)
+        (ap Some (watch-read.1 ∙ ap (λ (xs : List ℕ). get_or xs position 0) (clause_of_formula book (clause_of_node node) inside)))
 
-    pub owner_read : (s + p < length book) × (owner_in book numbers node ≡ get_or book (s + p) 0)
-    owner_read =
-        let less = owner-within in
-        (omega (arith, clause_inside book (well_formed_parted book k.well) d s e inside begin end), owner-some)
+unmarked_is : {b : Bool} → one b ≡ 0 → b ≡ false
+unmarked_is {b = false} e = refl
+unmarked_is {b = true} e = absurd (omega arith)
+
+-- one mark more
+abbrev pub unmarked : Bool → ℕ
+unmarked m = one (not m)
+
+pub marks_fewer : (marks : List Bool) (node : ℕ) → node < length marks → get_or marks node false ≡ false
+    → sum_by unmarked (set marks node true) < sum_by unmarked marks
+marks_fewer marks node h e = omega (arith, sum_by-set unmarked marks node true false h, ap unmarked e)
 
 -- the first nodes of a chain
 abbrev Upto : ℕ → ℕ → List ℕ → ℕ → List ℕ → Type 0
@@ -133,17 +133,17 @@ module _ (v c : ℕ) (numbers : List ℕ) where
       deeper x h = ⊎_elim (λ e. rw e (omega (arith, times-same m passed))) (λ n. omega (arith, times_other x m passed n)) (alike x m)
 
 -- the walk along the list of l: some nodes are passed and marked, and `node` is next
-pub record ListWalk (book numbers before marks : List ℕ) (l node : ℕ) : Type 0 where
-  pub long : Marks marks
+pub record ListWalk (book numbers : List ℕ) (before marks : List Bool) (l node : ℕ) : Type 0 where
+  pub long : length marks ≡ node_marks
   pub passed : List ℕ
   pub upto : Upto (variables_of book) (clauses_of book) numbers (head_slot (variables_of book) (clauses_of book) l) passed
   pub next : get_or numbers (end_slot (variables_of book) (clauses_of book) (head_slot (variables_of book) (clauses_of book) l) passed) 0 ≡ node
   pub once : (n : ℕ) → times n passed ≤ 1
-  pub owned : (n : ℕ) → 0 < times n passed → (1 ≤ n) × (n ≤ 2 * clauses_of book) × (owner_in book numbers n ≡ l)
-  pub marked : (n : ℕ) → get_or marks n 0 ≡ get_or before n 0 + times n passed
+  pub owned : (n : ℕ) → 0 < times n passed → (1 ≤ n) × (n ≤ 2 * clauses_of book) × (owner_in book numbers n ≡ Some l)
+  pub marked : (n : ℕ) → one (get_or marks n false) ≡ one (get_or before n false) + times n passed
 
-module _ (book numbers before : List ℕ) (l : ℕ) where
-  pub walking_start : (head : ℕ) → Marks before → head ≡ head_slot (variables_of book) (clauses_of book) l → ListWalk book numbers before before l (get_or numbers head 0)
+module _ (book numbers : List ℕ) (before : List Bool) (l : ℕ) where
+  pub walking_start : (head : ℕ) → length before ≡ node_marks → head ≡ head_slot (variables_of book) (clauses_of book) l → ListWalk book numbers before before l (get_or numbers head 0)
   unfolding times
   walking_start head long e =
       record {
@@ -156,11 +156,10 @@ module _ (book numbers before : List ℕ) (l : ℕ) where
         marked = λ n. omega arith;
       }
 
-  module _ (marks : List ℕ) (node : ℕ) (w : ListWalk book numbers before marks l node) where
+  module _ (marks : List Bool) (node : ℕ) (w : ListWalk book numbers before marks l node) where
     pub walking_end : node ≡ 0 → ListSays book numbers before marks l true
     walking_end e =
         record {
-          long = w.long;
           yes =
               λ r.
               record {
@@ -177,9 +176,9 @@ module _ (book numbers before : List ℕ) (l : ℕ) where
           no = λ r. absurd (never refl r);
         }
 
-    module _ (clean : (n : ℕ) → owner_in book numbers n ≡ l → get_or before n 0 ≡ 0) (some : node ≡ 0 → ⊥) where
+    module _ (clean : (n : ℕ) → owner_in book numbers n ≡ Some l → get_or before n false ≡ false) (some : node ≡ 0 → ⊥) where
       -- what a good list says of the next node
-      next-good : ListGood book numbers l → (1 ≤ node) × (node ≤ 2 * clauses_of book) × (owner_in book numbers node ≡ l) × (get_or marks node 0 ≡ 0)
+      next-good : ListGood book numbers l → (1 ≤ node) × (node ≤ 2 * clauses_of book) × (owner_in book numbers node ≡ Some l) × (get_or marks node false ≡ false)
       next-good good =
           go
           (chain_goes_on (variables_of book) (clauses_of book) numbers (head_slot (variables_of book) (clauses_of book) l) good.nodes w.passed good.chain w.upto
@@ -187,7 +186,7 @@ module _ (book numbers before : List ℕ) (l : ℕ) where
         where
           go : (rest : List ℕ) × (good.nodes ≡ w.passed ++ rest)
               × Chain (variables_of book) (clauses_of book) numbers (end_slot (variables_of book) (clauses_of book) (head_slot (variables_of book) (clauses_of book) l) w.passed) rest
-              → (1 ≤ node) × (node ≤ 2 * clauses_of book) × (owner_in book numbers node ≡ l) × (get_or marks node 0 ≡ 0)
+              → (1 ≤ node) × (node ≤ 2 * clauses_of book) × (owner_in book numbers node ≡ Some l) × (get_or marks node false ≡ false)
           go ([], same, ch) = absurd (some (sym w.next ∙ ch))
           go (x ∷ rest, same, ch) =
               let is : x ≡ node = sym ch.0 ∙ w.next in
@@ -196,27 +195,19 @@ module _ (book numbers before : List ℕ) (l : ℕ) where
               let there : 0 < times node good.nodes = omega (arith, times-same node rest) in
               let own = good.owned node there in
               let none : times node w.passed ≡ 0 = omega (arith, times-same node rest, good.once node) in
-              (own.0, own.1, own.2, omega (arith, w.marked node, clean node own.2))
+              (own.0, own.1, own.2, unmarked_is (omega (arith, w.marked node, ap one (clean node own.2))))
 
-      walking-not : (ListGood book numbers l → ⊥) → ListSays book numbers before marks l false
-      walking-not n = record { long = w.long; yes = λ r. absurd (never r refl); no = λ r. n }
+      pub walking_stops : (node ≤ 2 * clauses_of book → owner_in book numbers node ≡ Some l → get_or marks node false ≡ false → ⊥)
+          → ListSays book numbers before marks l false
+      walking_stops bad =
+          record { yes = λ r. absurd (never r refl); no = λ r good. let next = next-good good in bad next.1 next.2 next.3 }
 
-      pub walking_far : 2 * clauses_of book < node → ListSays book numbers before marks l false
-      walking_far h = walking-not (λ good. let z = (next-good good).1 in omega arith)
-
-      pub walking_foreign : (owner_in book numbers node ≡ l → ⊥) → ListSays book numbers before marks l false
-      walking_foreign h = walking-not (λ good. h (next-good good).2)
-
-      pub walking_twice : (place : ℕ) → place ≡ node → (get_or marks place 0 ≡ 0 → ⊥) → ListSays book numbers before marks l false
-      walking_twice place e h = walking-not (λ good. h (rw e (next-good good).3))
-
-      pub list_walk_more : (place link : ℕ) → place ≡ node → node ≤ 2 * clauses_of book → clauses_of book ≤ max_clauses → owner_in book numbers node ≡ l → get_or marks place 0 ≡ 0
-          → link ≡ link_slot (variables_of book) (clauses_of book) node → ListWalk book numbers before (set marks place 1) l (get_or numbers link 0)
+      pub list_walk_more : (link : ℕ) → node ≤ 2 * clauses_of book → clauses_of book ≤ max_clauses → owner_in book numbers node ≡ Some l → get_or marks node false ≡ false
+          → link ≡ link_slot (variables_of book) (clauses_of book) node → ListWalk book numbers before (set marks node true) l (get_or numbers link 0)
       unfolding times
-      list_walk_more place link place_is high few own unmarked link-is =
-          rw place_is
-          (record {
-            long = length-set marks node 1 ∙ w.long;
+      list_walk_more link high few own unmarked link-is =
+          record {
+            long = length-set marks node true ∙ w.long;
             passed = w.passed ++ (node ∷ []);
             upto = upto-more (variables_of book) (clauses_of book) numbers (head_slot (variables_of book) (clauses_of book) l) w.passed node w.upto w.next;
             next =
@@ -225,13 +216,13 @@ module _ (book numbers before : List ℕ) (l : ℕ) where
             owned =
                 λ n h. ⊎_elim (λ e. rw e (low, high, own)) (λ e. w.owned n (let z = more-other n e in omega arith)) (alike n node);
             marked = λ n. ⊎_elim (mark-here n) (mark-other n) (alike n node);
-          })
+          }
         where
           low : 1 ≤ node
           low = ⊎_elim (λ z. absurd (some (omega arith))) (λ z. z) (below node 1)
 
           none : times node w.passed ≡ 0
-          none = let z : get_or marks node 0 ≡ 0 = rw (← place_is) unmarked in omega (arith, w.marked node, clean node own)
+          none = omega (arith, w.marked node, ap one unmarked, ap one (clean node own))
 
           more-here : times node (w.passed ++ (node ∷ [])) ≡ times node w.passed + 1
           more-here = times-append node w.passed (node ∷ []) ∙ ap (λ (x : ℕ). times node w.passed + x) (times-same node [])
@@ -239,114 +230,58 @@ module _ (book numbers before : List ℕ) (l : ℕ) where
           more-other : (n : ℕ) → (n ≡ node → ⊥) → times n (w.passed ++ (node ∷ [])) ≡ times n w.passed
           more-other n e = times-append n w.passed (node ∷ []) ∙ (omega (arith, times_other n node [] e))
 
-          mark-here : (n : ℕ) → n ≡ node → get_or (set marks node 1) n 0 ≡ get_or before n 0 + times n (w.passed ++ (node ∷ []))
+          mark-here : (n : ℕ) → n ≡ node → one (get_or (set marks node true) n false) ≡ one (get_or before n false) + times n (w.passed ++ (node ∷ []))
           mark-here n e =
               let there : node < length marks = omega (arith, w.long) in
-              rw (e, get_or-set_same marks node 1 0 there, more-here, none, clean node own)
+              rw (e, get_or-set_same marks node true false there, more-here, none, clean node own)
 
-          mark-other : (n : ℕ) → (n ≡ node → ⊥) → get_or (set marks node 1) n 0 ≡ get_or before n 0 + times n (w.passed ++ (node ∷ []))
-          mark-other n e = rw (get_or-set_other marks node n 1 0 e, more-other n e) (w.marked n)
+          mark-other : (n : ℕ) → (n ≡ node → ⊥) → one (get_or (set marks node true) n false) ≡ one (get_or before n false) + times n (w.passed ++ (node ∷ []))
+          mark-other n e = rw (get_or-set_other marks node n true false e, more-other n e) (w.marked n)
 
 -- the loop over the literals: the lists of those below l are good, and the nodes of the others are not marked
-pub record Through (book numbers marks : List ℕ) (l : ℕ) : Type 0 where
-  pub long : Marks marks
+pub record Through (book numbers : List ℕ) (marks : List Bool) (l : ℕ) : Type 0 where
   pub met : (j : ℕ) → 2 ≤ j → j < l → Met book numbers marks j
-  pub clean : (n : ℕ) → l ≤ owner_in book numbers n → get_or marks n 0 ≡ 0
+  pub clean : (n j : ℕ) → owner_in book numbers n ≡ Some j → l ≤ j → get_or marks n false ≡ false
 
-module _ (book numbers : List ℕ) where
-  pub through_start : (marks : List ℕ) → Marks marks → ((n : ℕ) → get_or marks n 0 ≡ 0) → Through book numbers marks 2
-  through_start marks long zeros = record { long = long; met = λ j a b. absurd (omega arith); clean = λ n h. zeros n }
+module _ (book numbers : List ℕ) (marks : List Bool) (l : ℕ) (t : Through book numbers marks l) where
+  pub through_end : 2 * variables_of book + 1 < l → AllSays book numbers marks true
+  through_end h =
+      record { yes = λ r j a b. t.met j a (omega arith); no = λ r. absurd (never refl r) }
 
-  module _ (marks : List ℕ) (l : ℕ) (t : Through book numbers marks l) where
-    pub through_clean : (n : ℕ) → owner_in book numbers n ≡ l → get_or marks n 0 ≡ 0
-    through_clean n e = t.clean n (omega arith)
-
-    pub through_end : 2 * variables_of book + 1 < l → AllSays book numbers marks true
-    through_end h =
-        record { long = t.long; yes = λ r j a b. t.met j a (omega arith); no = λ r. absurd (never refl r) }
-
-    module _ (after : List ℕ) where
-      pub through_not : (r : Bool) → r ≡ false → 2 ≤ l → l ≤ 2 * variables_of book + 1 → ListSays book numbers marks after l r
-          → AllSays book numbers after false
-      through_not r e low high says =
-          record { long = says.long; yes = λ z. absurd (never z refl); no = λ z all. says.no e (all l low high) }
-
-      pub through_more : (r : Bool) → r ≡ true → ListSays book numbers marks after l r → Through book numbers after (l + 1)
-      through_more r passed says =
-          record {
-            long = says.long;
-            met = λ j a b. ⊎_elim (earlier j a) (λ h. let same : j ≡ l = omega arith in rw same now-met) (below j l);
-            clean = λ n h. rw ((says.yes passed).marked n, foreign n (λ e. omega arith)) (let z = t.clean n (omega arith) in omega arith);
-          }
-        where
-          marked : ListMarked book numbers marks after l
-          marked = says.yes passed
-
-          foreign : (n : ℕ) → (owner_in book numbers n ≡ l → ⊥) → times n marked.good.nodes ≡ 0
-          foreign n e = ⊎_elim (λ h. absurd (e (marked.good.owned n h).2)) (λ h. omega arith) (below 0 (times n marked.good.nodes))
-
-          earlier : (j : ℕ) → 2 ≤ j → j < l → Met book numbers after j
-          earlier j a h =
-              let m = t.met j a h in
-              record {
-                good = m.good;
-                exact =
-                    λ n e.
-                    let none = foreign n (λ z. omega arith) in
-                    let same = m.exact n e in
-                    omega (arith, marked.marked n);
-              }
-
-          now-met : Met book numbers after l
-          now-met =
-              record { good = marked.good; exact = λ n e. let zero-before = t.clean n (omega arith) in omega (arith, marked.marked n) }
-
-  -- the look at one node, and at all
-  module _ (marks : List ℕ) (node : ℕ) where
-    pub node_idle : (link : ℕ) → owner_in book numbers node ≡ 0 → link ≡ link_slot (variables_of book) (clauses_of book) node
-        → Says (eqb (get_or numbers link 0) 0) (NodeGood book numbers marks node)
-    node_idle link none link-is =
-        says_equal (get_or numbers link 0) 0 (λ e. record { idle = λ z. rw (← link-is) e; met = λ z. absurd (z none) })
-        (λ n good. n (rw link-is (good.idle none)))
-
-    pub node_met : (place : ℕ) → place ≡ node → (owner_in book numbers node ≡ 0 → ⊥)
-        → Says (not (eqb (get_or marks place 0) 0)) (NodeGood book numbers marks node)
-    node_met place same some = rw same (go (eqb (get_or marks node 0) 0) refl)
+  module _ (after : List Bool) where
+    pub through_more : (r : Bool) → r ≡ true → ListSays book numbers marks after l r → Through book numbers after (l + 1)
+    through_more r passed says =
+        record {
+          met = λ j a b. ⊎_elim (earlier j a) (λ h. let same : j ≡ l = omega arith in rw same now-met) (below j l);
+          clean =
+              λ n j own h.
+              unmarked_is
+              (omega (
+                arith,
+                (says.yes passed).marked n,
+                ap one (t.clean n j own (omega arith)),
+                foreign n (λ e. let same : j ≡ l = cc in omega arith),
+              ));
+        }
       where
-        go : (b : Bool) → eqb (get_or marks node 0) 0 ≡ b → Says (not b) (NodeGood book numbers marks node)
-        go true e = says_false (λ good. let z = good.met some in let y = eqb-true (get_or marks node 0) 0 e in omega arith)
-        go false e =
-            says_true
-            (record {
-              idle = λ z. absurd (some z);
-              met = λ z. ⊎_elim (λ h. h) (λ h. absurd (eqb-false (get_or marks node 0) 0 e (omega arith))) (below 0 (get_or marks node 0));
-            })
+        marked : ListMarked book numbers marks after l
+        marked = says.yes passed
 
-  pub record Looked (marks : List ℕ) (last node : ℕ) : Type 0 where
-    pub last_is : last ≡ 2 * clauses_of book
-    pub last_small : last ≤ 2 * max_clauses
-    pub low : 1 ≤ node
-    pub bound : node ≤ last + 1
-    pub good : (n : ℕ) → 1 ≤ n → n < node → NodeGood book numbers marks n
+        foreign : (n : ℕ) → (owner_in book numbers n ≡ Some l → ⊥) → times n marked.good.nodes ≡ 0
+        foreign n e = ⊎_elim (λ h. absurd (e (marked.good.owned n h).2)) (λ h. omega arith) (below 0 (times n marked.good.nodes))
 
-  module _ (marks : List ℕ) (last : ℕ) where
-    pub looked_none : Looking book numbers → (clauses : ℕ) → clauses ≡ clauses_of book → last ≡ 2 * clauses → Looked marks last 1
-    looked_none k clauses e f =
-        record { last_is = omega arith; last_small = omega arith; low = omega arith; bound = omega arith; good = λ n a b. absurd (omega arith) }
+        earlier : (j : ℕ) → 2 ≤ j → j < l → Met book numbers after j
+        earlier j a h =
+            let m = t.met j a h in
+            record {
+              good = m.good;
+              exact =
+                  λ n e.
+                  let none = foreign n (λ z. let same : j ≡ l = cc in omega arith) in
+                  let same = m.exact n e in
+                  omega (arith, marked.marked n);
+            }
 
-    module _ (node : ℕ) (k : Looked marks last node) where
-      pub looked_more : (r : Bool) → r ≡ true → node ≤ last → Says r (NodeGood book numbers marks node) → Looked marks last (node + 1)
-      looked_more r passed h says =
-          record {
-            last_is = k.last_is;
-            last_small = k.last_small;
-            low = omega arith;
-            bound = omega arith;
-            good = λ n a b. ⊎_elim (λ z. k.good n a z) (λ z. let same : n ≡ node = omega arith in rw same (says.yes passed)) (below n node);
-          }
-
-      pub looked_not : (r : Bool) → r ≡ false → node ≤ last → Says r (NodeGood book numbers marks node) → Says false (NodesGood book numbers marks)
-      looked_not r e h says = says_false (λ all. says.no e (all node k.low (omega (arith, k.last_is))))
-
-      pub looked_all : last < node → Says true (NodesGood book numbers marks)
-      looked_all h = says_true (λ n a b. k.good n a (omega (arith, k.last_is)))
+        now-met : Met book numbers after l
+        now-met =
+            record { good = marked.good; exact = λ n e. let zero-before = t.clean n l e (omega arith) in omega (arith, marked.marked n, ap one zero-before) }

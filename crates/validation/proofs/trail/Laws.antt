@@ -20,9 +20,6 @@ use Rattle.layout.specs.Layout.{length_at, decisions_at, trail_at, levels_at, va
 use Rattle.validation.specs.Inner.Trail.{TrailGood, PlaceGood, PlaceFree, ValuePlaced, ValueGood}
 use Rattle.layout.proofs.TrailLaws.{literal_cases, literal_on, at_place, ValueCase, value_cases, level_number_new, level_number_old, literal_behind, level_behind, level_number_top, held_level_before, zero_off, newest_off}
 
-pub level_step : (level before : ℕ) → before ≤ level → level - before ≤ 1 → (level ≡ before) ⊎ (level ≡ before + 1)
-level_step level before low few = ⊎_elim inl (λ n. inr (omega arith)) (alike level before)
-
 -- what the checks say together
 pub record TrailChecked (v : ℕ) (numbers : List ℕ) : Type 0 where
   pub count_within : get_or numbers length_at 0 ≤ v

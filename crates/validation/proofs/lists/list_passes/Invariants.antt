@@ -1,11 +1,9 @@
-use Rattle.base.specs.Lists.{times}
-use Rattle.validation.proofs.places.Laws.{Room}
-use Rattle.validation.proofs.lists.Laws.{ListWalk}
+use Rattle.std.specs.List.{sum_by}
+use Rattle.validation.proofs.lists.Laws.{ListWalk, unmarked}
 use Rattle.validation.proofs.lists.list_passes.Given as goal
 
 abbrev pub invariant-loop-node : goal.invariant-loop-node
-invariant-loop-node l =
-    Room l.book l.session l.variables l.clauses × ListWalk l.book l.session l.initial.marks l.marks l.literal l.node
+invariant-loop-node l = ListWalk l.book l.session l.initial.marks l.marks l.literal l.node
 
 abbrev pub decreases-loop-node : goal.decreases-loop-node
-decreases-loop-node l = times 0 l.marks
+decreases-loop-node l = sum_by unmarked l.marks
