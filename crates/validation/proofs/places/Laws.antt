@@ -9,11 +9,11 @@ use borrow.Author.Tests.{le-leb, eqb-true, eqb-false, eq-eqb}
 use lib.Dec.{eqb}
 use lib.ListN.{length, get_or}
 use denote.Param.Members.{Mut}
-use Rattle.std.specs.Prelude.{Option, MatchOption, HoldsAt}
+use Rattle.std.specs.Prelude.{Option, HoldsAt}
 use Rattle.std.specs.Bool.{MatchBool, then_some}
 use Rattle.std.specs.Fn.{Called}
-use Rattle.std.specs.Iterator.{YieldsThen}
-use Rattle.std.specs.List.{AllWithin, FoldsTo}
+use Rattle.std.specs.Iterator.{ChecksAll}
+use Rattle.std.specs.List.{AllWithin}
 use Rattle.std.proofs.lemmas.Iterator.{YieldsList, cases_from_all}
 use Rattle.base.specs.Lists.{member}
 use Rattle.base.proofs.Members.{member_at}
@@ -55,14 +55,12 @@ pub literal_within_at : (v : ℕ) (clause : List ℕ) → sound_clause v clause 
     → literal_within v m ≡ true
 literal_within_at v clause s m d i less e = rw e (all_at (literal_within v) clause d (clause_parts v clause s).within i less)
 
--- what `all` answers of a test of each number
-pub says_all : {S A F : Type 0} {steps : S → Option A → S → Type 0} {view : A → ℕ} {g : Mut F (A × Unit {0}) Bool} {s : S} {list : List ℕ}
-    (u : S) (f : F) (P : ℕ → Type 0) (r : Bool)
-    → (xs : List A) × (o : Option A) × (j : F) × YieldsThen steps s xs o u × FoldsTo (λ p x q. Called g p (x, tt) true q) f xs j
-    × MatchOption o (r ≡ true) (λ x. (r ≡ false) × ((h : F) × Called g j (x, tt) false h))
-    → YieldsList steps view s list → ((x : A) (q : F) → Called g f (x, tt) true q → (q ≡ f) × P (view x))
+-- what `all` answers of the numbers of a list
+pub says_each : {S A F : Type 0} {steps : S → Option A → S → Type 0} {view : A → ℕ} {g : Mut F (A × Unit {0}) Bool} {s : S} {list : List ℕ}
+    (u : S) (f : F) (P : ℕ → Type 0) (r : Bool) → ChecksAll steps g s f r u → YieldsList steps view s list
+    → ((x : A) (q : F) → Called g f (x, tt) true q → (q ≡ f) × P (view x))
     → ((x : A) (q : F) → Called g f (x, tt) false q → P (view x) → ⊥) → Says r ((m : ℕ) → member m list ≡ true → P m)
-says_all {list = list} u f P r ran items holds fails = go r (cases_from_all u f r P (λ m. P m → ⊥) ran items holds fails)
+says_each {list = list} u f P r ran items holds fails = go r (cases_from_all u f r P (λ m. P m → ⊥) ran items holds fails)
   where
     go : (b : Bool) → MatchBool b (AllWithin P list 0 (length list)) ((i : ℕ) × (i < length list) × HoldsAt (λ m. P m → ⊥) list i)
         → Says b ((m : ℕ) → member m list ≡ true → P m)

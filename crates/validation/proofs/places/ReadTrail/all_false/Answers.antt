@@ -6,7 +6,7 @@ use Rattle.std.proofs.lemmas.Iterator.Adapters.{serves_from_places}
 use Rattle.book.specs.Formula.{literal_within}
 use Rattle.run.specs.Trail.{is_false}
 use Rattle.validation.specs.Inner.Read.{read}
-use Rattle.validation.proofs.places.Laws.{literal_within_at, says_all}
+use Rattle.validation.proofs.places.Laws.{literal_within_at, says_each}
 use Rattle.validation.proofs.reasons.Laws.{false_there, false_not}
 use Rattle.validation.proofs.places.ReadTrail.all_false.Goals as goal
 
@@ -19,5 +19,5 @@ all-requires-clause-callable c =
 
 pub returns : goal.returns
 returns c =
-    says_all _ _ (λ m. is_false (read c.args.self) m ≡ true) _ c.all.ensures.ran
+    says_each _ _ (λ m. is_false (read c.args.self) m ≡ true) _ c.all.ensures.ran
     (YieldsList-from_slice c.args.clause.now cc) (λ x q k. search (rules, false_there)) (λ x q k. search (rules, false_not))

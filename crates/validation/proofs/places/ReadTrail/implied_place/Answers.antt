@@ -6,7 +6,7 @@ use Rattle.std.proofs.lemmas.Iterator.Adapters.{serves_from_places}
 use Rattle.book.specs.Formula.{literal_within}
 use Rattle.validation.specs.Inner.Read.{read}
 use Rattle.validation.specs.Inner.Reasons.{Before}
-use Rattle.validation.proofs.places.Laws.{literal_within_at, says_all}
+use Rattle.validation.proofs.places.Laws.{literal_within_at, says_each}
 use Rattle.validation.proofs.reasons.Laws.{implied_answered}
 use Rattle.validation.proofs.places.ReadTrail.implied_place.Goals as goal
 
@@ -22,5 +22,5 @@ pub returns : goal.returns
 returns c =
     rw c.then_some.ensures
     (implied_answered _ _ c.args.self.readable.good.once _ c.in_ok-place.ensures _
-    (says_all _ _ (Before (read c.args.self) c.in_ok-place.place) _ c.all.ensures.ran
+    (says_each _ _ (Before (read c.args.self) c.in_ok-place.place) _ c.all.ensures.ran
     (YieldsList-from_slice c.args.clause.now cc) (λ x q k. search rules) (λ x q k. search rules)))
