@@ -1,15 +1,16 @@
 -- The search for a new watch: what follows from what the scan answers.
+use Rattle.std.specs.Prelude.{Option, Some, None}
 use Prim.Native.Nat.{ℕ, suc, ◌+◌, ◌*◌, ◌≤◌, ◌<◌, min}
 use native.Mathlib.Omega.{arith}
 use mathlib.Core.Bool.{Bool, true, false, false≢true}
 use mathlib.Core.List.{List, [], ◌∷◌, ◌++◌}
 use mathlib.Core.Option.{none, some}
-use mathlib.Core.Path.{◌≡◌, sym, ap, ◌∙◌, subst}
+use mathlib.Core.Path.{◌≡◌, refl, sym, ap, ◌∙◌, subst}
 use borrow.Author.Tests.{ne_eqb}
 use lib.ListN.{length, get_or, set, drop, length-set}
 use lib.Seq.{drop-set-lt}
 use Rattle.book.specs.Formula.{max_clause, Formula, variable_of, literal_within}
-use Rattle.book.specs.Numbers.{variables_of, clauses_of, clause_start, formula_of}
+use Rattle.book.specs.Numbers.{variables_of, clauses_of, clause_at, formula_of}
 use Rattle.book.proofs.PartLaws.{clauses_counted}
 use Rattle.book.proofs.SoundLaws.{literal_parts}
 use Rattle.base.specs.Lists.{times}
@@ -28,18 +29,24 @@ use Rattle.layout.specs.declared.values.Value.TheVariants.{Open, True, False}
 use Rattle.engine.specs.Engine.{SameBehind}
 use Rattle.engine.specs.Inner.Lists.{Lists, Walking, Unlisted, KeptOn, TakenOut, PushedFront, linked}
 use Rattle.engine.specs.Inner.Trail.{SameBeside, assign_nums}
-use Rattle.engine.specs.Inner.Scan.{scanned_in, ValueSays}
+use Rattle.engine.specs.Inner.Scan.{scanned_in, position_in, ValueSays}
 use Rattle.engine.specs.Inner.Visit.{Visiting, Visited, count_nums, watch_nums, Scannable, Seeking}
 use Rattle.engine.specs.declared.lists.Walk.{Walk}
 use Rattle.engine.specs.declared.scan.Scan.{Scan}
-use Rattle.engine.specs.declared.visit.Visit.TheVariants as v
 use Rattle.engine.proofs.StepLaws.{beside_behind, encodes_conflict}
 use Rattle.engine.proofs.trail.Laws.{assign_beside}
 use Rattle.engine.proofs.lists.FrameLaws.{lists_of}
 use Rattle.engine.proofs.lists.WalkLaws.{walking_kept, walking_listed, walking_node}
 use Rattle.engine.proofs.visit.StoreLaws.{trail_room, encodes_counted, encodes_implied, encodes_lists, lists_behind, Turned, WatchSet, watch_set}
-use Rattle.engine.proofs.visit.SpotLaws.{spot_literal, well_sound, visited_watched, visited_trailed, visited_checks, visited_lists, visited_seen, clause_inside_formula, clause_is, spot, other_within, visited_by}
+use Rattle.engine.proofs.visit.SpotLaws.{literals_read, well_sound, visited_watched, visited_trailed, visited_checks, visited_lists, visited_seen, clause_inside_formula, clause_is, spot, other_within, visited_by}
 use Rattle.engine.proofs.visit.MoveLaws.{moved_others, moved_turned, node_moved, out_same, out_free}
+
+-- A literal at a position that a scan found.
+pub record FoundLiteral (book literals : List ℕ) (position : ℕ) : Type 0 where
+  pub inside : position < length literals
+  pub short : position < max_clause
+  pub low : 2 ≤ get_or literals position 0
+  pub high : get_or literals position 0 ≤ 2 * variables_of book + 1
 
 module _ {book numbers : List ℕ} {walk : Walk} {other : ℕ} {value : Value} (seeking : Seeking book numbers walk other value) where
   abbrev at : Visiting book numbers walk
@@ -77,12 +84,13 @@ module _ {book numbers : List ℕ} {walk : Walk} {other : ℕ} {value : Value} (
         watching = rw (e ∙ clause_is at) (visited_seen at).watching;
       }
 
-  pub seeking_scanned : (r t : Scan) (d : ℕ) → r ≡ t → d ≡ clause_of_node walk.node
+  pub seeking_scanned : (r : Scan) (found : Option ℕ) (d : ℕ) → r.found ≡ found → d ≡ clause_of_node walk.node
       → ((s : Scannable book numbers d) → scanned_in r ≡ scan s.run.trail (clause_of (formula_of book) d) (cell_of s.run d))
-      → scanned_in t ≡ scan trail clause cell
+      → record { found = position_in found; checks = r.checks } ≡ scan trail clause cell
   unfolding seeking_scannable
-  seeking_scanned r t d is e h =
-      ap scanned_in (sym is) ∙ h (seeking_scannable d e) ∙ ap (λ (x : ℕ). scan trail (clause_of formula x) (cell_of at.run x)) (e ∙ clause_is at)
+  seeking_scanned r found d is e h =
+      ap (λ (x : Option ℕ). record { found = position_in x; checks = r.checks }) (sym is)
+      ∙ h (seeking_scannable d e) ∙ ap (λ (x : ℕ). scan trail (clause_of formula x) (cell_of at.run x)) (e ∙ clause_is at)
 
   untrue : is_true trail (other_watch clause cell q) ≡ false
   untrue = rw (← seeking.other_is) seeking.untrue
@@ -101,14 +109,13 @@ module _ {book numbers : List ℕ} {walk : Walk} {other : ℕ} {value : Value} (
         scan_found trail clause cell position (pointer_within (size formula c) cell (visited_seen at).watching)
         (ap (λ (x : Scanned). x.found) (sym found))
 
-    pub found_literal : (start : ℕ) → start ≡ clause_start book (clause_of_node walk.node)
-        → (position < max_clause) × (start + position < length book) × (get_or book (start + position) 0 ≡ get_or clause position 0)
-    found_literal start begin =
-        let reads = spot_literal book at.well c position start inside found_at.0 (begin ∙ ap (clause_start book) (clause_is at)) in
-        (let a = found_at.0 in let b = clause_short formula (well_sound at) c in omega arith, reads.0, reads.1)
-
-    pub found_bounds : (2 ≤ get_or clause position 0) × (get_or clause position 0 ≤ 2 * variables_of book + 1)
-    found_bounds = literal_parts (variables_of book) l (literal_within_lem formula (well_sound at) c position found_at.0)
+    -- the literal there, as the code reads it
+    pub found_literal : (d : ℕ) (literals : List ℕ) → d ≡ clause_of_node walk.node → literals ≡ clause_at book d
+        → FoundLiteral book literals position
+    found_literal d literals d-is read =
+        rw (literals_read at d literals d-is read)
+        (let bounds = literal_parts (variables_of book) l (literal_within_lem formula (well_sound at) c position found_at.0) in
+        record { inside = found_at.0; short = let a = found_at.0 in let b = clause_short formula (well_sound at) c in omega arith; low = bounds.0; high = bounds.1 })
 
     visit-moves : visit formula q c at.run ≡ perform_action formula q c (moves position made) at.run
     unfolding visit action scanned_action
@@ -185,10 +192,10 @@ module _ {book numbers : List ℕ} {walk : Walk} {other : ℕ} {value : Value} (
           (took.goes_on (visited_lists at) at.walking)
 
       moved-visited : {after : List ℕ} → after ≡ count_nums pushed (checks_at (variables_of book) (length (formula_of book).clauses) + c) made
-          → Visited book numbers after at (v.GoOn next)
+          → Visited book numbers after at (Some next)
       unfolding perform_action counted with_watches
       moved-visited {after} after_is =
-          visited_by at after (v.GoOn next) (counted c made moved_run) visit-moves
+          visited_by at after (Some next) (counted c made moved_run) visit-moves
           (rw after_is (encodes_counted formula pushed moved_run pushed-encodes watched-after (visited_checks at) c made (clause_inside_formula at)))
           (rw after_is (length-set pushed place filled ∙ pushed_length))
           (rw after_is
@@ -202,12 +209,13 @@ module _ {book numbers : List ℕ} {walk : Walk} {other : ℕ} {value : Value} (
           filled : ℕ
           filled = min (get_or pushed place 0 + made) max_count
 
-    pub visited_moved : (vars many count literal : ℕ) {taken stored pushed after : List ℕ} (next : Walk) → vars ≡ variables_of book → many ≡ clauses_of book
-        → count ≡ checks_at vars many + clause_of_node walk.node → literal ≡ get_or clause position 0
+    pub visited_moved : (vars many count d : ℕ) (literals : List ℕ) {taken stored pushed after : List ℕ} (next : Walk) → vars ≡ variables_of book
+        → many ≡ clauses_of book → count ≡ checks_at vars many + clause_of_node walk.node → d ≡ clause_of_node walk.node → literals ≡ clause_at book d
         → TakenOut linked vars many numbers taken walk next → stored ≡ watch_nums vars many taken walk.node position
-        → PushedFront linked vars many stored pushed literal walk.node → after ≡ count_nums pushed count made → Visited book numbers after at (v.GoOn next)
-    visited_moved vars many count literal {taken} {stored} {pushed} {after} next vars-is many_is count_is literal-is took stored_is push after_is =
-        moved-visited (rw (vars-is, many_is) at took) (rw (vars-is, many_is) at stored_is) (rw (vars-is, many_is, literal-is) at push)
+        → PushedFront linked vars many stored pushed (get_or literals position 0) walk.node → after ≡ count_nums pushed count made → Visited book numbers after at (Some next)
+    visited_moved vars many count d literals {taken} {stored} {pushed} {after} next vars-is many_is count_is d-is read took stored_is push after_is =
+        moved-visited (rw (vars-is, many_is) at took) (rw (vars-is, many_is) at stored_is)
+        (rw (vars-is, many_is, literals_read at d literals d-is read) at push)
         (after_is ∙ ap (λ (x : ℕ). count_nums pushed x made) (omega (arith, clause_is at, clauses_counted book)))
 
   -- no position is found
@@ -251,50 +259,47 @@ module _ {book numbers : List ℕ} {walk : Walk} {other : ℕ} {value : Value} (
         drop-set-lt (required_length (variables_of book) (clauses_of book)) numbers place-count (min (get_or numbers place-count 0 + made) max_count)
         (let i = clause_inside_formula at in omega (arith, clauses_counted book))
 
-    pub visited_conflict : value ≡ False → (vars many count name : ℕ) (after : List ℕ) → vars ≡ variables_of book → many ≡ clauses_of book
-        → count ≡ checks_at vars many + clause_of_node walk.node
-        → name ≡ clause_of_node walk.node + 1
-        → after ≡ set (count_nums numbers count made) conflict_at name
-        → Visited book numbers after at v.Conflict
+    pub visited_conflict : value ≡ False → (vars many count d : ℕ) (now : List ℕ) → vars ≡ variables_of book → many ≡ clauses_of book
+        → count ≡ checks_at vars many + clause_of_node walk.node → d ≡ clause_of_node walk.node → now ≡ count_nums numbers count made
+        → Visited book numbers (set now conflict_at (d + 1)) at None
     unfolding perform_action counted with_conflict
-    visited_conflict e vars many count name after vars-is many_is count_is name-is after_is =
-        visited_by at after v.Conflict (with_conflict (suc c) counted_run) (visit-conflicts e)
+    visited_conflict e vars many count d now vars-is many_is count_is d-is now_is =
+        visited_by at (set now conflict_at (d + 1)) None (with_conflict (suc c) counted_run) (visit-conflicts e)
         (rw final (encodes_conflict (suc c) (visited_watched at) counted-encodes))
         (rw final (length-set counted_numbers conflict_at (suc c) ∙ counted-length))
         (rw final (drop-set-lt (required_length (variables_of book) (clauses_of book)) counted_numbers conflict_at (suc c) (omega arith) ∙ counted-behind))
         (rw (ne_eqb (suc c) 0 (λ z. omega arith)))
       where
-        name-next : name ≡ suc c
-        name-next = omega (arith, clause_is at)
+        next-is : d + 1 ≡ suc c
+        next-is = omega (arith, clause_is at)
 
-        final : after ≡ set counted_numbers conflict_at (suc c)
-        final = after_is ∙ rw (count-place vars many count vars-is many_is count_is, name-next)
+        final : set now conflict_at (d + 1) ≡ set counted_numbers conflict_at (suc c)
+        final = rw (now_is, count-place vars many count vars-is many_is count_is, next-is)
 
     within : literal_within (variables_of book) other ≡ true
     within = ap (literal_within (variables_of book)) seeking.other_is ∙ other_within at
 
     -- an assignment has what it asks
-    pub implied_asks : value ≡ Open → (vars many count : ℕ) → vars ≡ variables_of book → many ≡ clauses_of book
-        → count ≡ checks_at vars many + clause_of_node walk.node
-        → (get_or (count_nums numbers count made) length_at 0 < variables_of book) × (2 ≤ other) × (variable_of other ≤ variables_of book)
+    pub implied_asks : value ≡ Open → (vars many count : ℕ) (now : List ℕ) → vars ≡ variables_of book → many ≡ clauses_of book
+        → count ≡ checks_at vars many + clause_of_node walk.node → now ≡ count_nums numbers count made
+        → (get_or now length_at 0 < vars) × (2 ≤ other) × (variable_of other ≤ vars)
     unfolding counted
-    implied_asks e vars many count vars-is many_is count_is =
+    implied_asks e vars many count now vars-is many_is count_is now_is =
         let bounds = literal_parts (variables_of book) other within in (
-          rw (count-place vars many count vars-is many_is count_is, counted-encodes.trail.count)
+          rw (now_is, count-place vars many count vars-is many_is count_is, counted-encodes.trail.count, vars-is)
               (trail_room (visited_trailed at) other within seeking.untrue (unfalse e)),
           bounds.0,
           let b = bounds.1 in omega arith,
         )
 
-    pub visited_implied : value ≡ Open → (vars many count level : ℕ) (after : List ℕ) (next : Walk) → vars ≡ variables_of book → many ≡ clauses_of book
-        → count ≡ checks_at vars many + clause_of_node walk.node
-        → level ≡ get_or (count_nums numbers count made) decisions_at 0
-        → after ≡ assign_nums vars (count_nums numbers count made) other level
+    pub visited_implied : value ≡ Open → (vars many count : ℕ) (now after : List ℕ) (next : Walk) → vars ≡ variables_of book → many ≡ clauses_of book
+        → count ≡ checks_at vars many + clause_of_node walk.node → now ≡ count_nums numbers count made
+        → after ≡ assign_nums vars now other (get_or now decisions_at 0)
         → KeptOn linked vars many after walk next
-        → Visited book numbers after at (v.GoOn next)
+        → Visited book numbers after at (Some next)
     unfolding perform_action counted on_trail
-    visited_implied e vars many count level after next vars-is many_is count_is level_is after_is kept =
-        visited_by at after (v.GoOn next) implied_run implied encodes
+    visited_implied e vars many count now after next vars-is many_is count_is now_is after_is kept =
+        visited_by at after (Some next) implied_run implied encodes
         (rw final (beside.same_length ∙ counted-length))
         (rw final (beside_behind beside (required_length (variables_of book) (clauses_of book)) (omega arith) ∙ counted-behind)) (
           at.reading.going.quiet,
@@ -309,25 +314,25 @@ module _ {book numbers : List ℕ} {walk : Walk} {other : ℕ} {value : Value} (
         implied_run : Run
         implied_run = on_trail other false counted_run
 
-        placed : count ≡ place-count
-        placed = count-place vars many count vars-is many_is count_is
+        level : ℕ
+        level = get_or counted_numbers decisions_at 0
 
-        asks : (get_or (count_nums numbers count made) length_at 0 < variables_of book) × (2 ≤ other) × (variable_of other ≤ variables_of book)
-        asks = implied_asks e vars many count vars-is many_is count_is
+        counted_now : now ≡ counted_numbers
+        counted_now = now_is ∙ rw (count-place vars many count vars-is many_is count_is)
+
+        asks : (get_or now length_at 0 < vars) × (2 ≤ other) × (variable_of other ≤ vars)
+        asks = implied_asks e vars many count now vars-is many_is count_is now_is
 
         beside : SameBeside (variables_of book) counted_numbers (assign_nums (variables_of book) counted_numbers other level)
-        beside = assign_beside (variables_of book) counted_numbers other level (rw placed at asks.0) asks.1 asks.2
+        beside = assign_beside (variables_of book) counted_numbers other level (rw (counted_now, vars-is) at asks.0) asks.1 (rw vars-is at asks.2)
 
         final : after ≡ assign_nums (variables_of book) counted_numbers other level
-        final = after_is ∙ rw (vars-is, placed)
-
-        at_level : level ≡ get_or counted_numbers decisions_at 0
-        at_level = level_is ∙ rw placed
+        final = after_is ∙ rw (vars-is, counted_now)
 
         encodes : Encodes formula after implied_run
         encodes =
             rw final
-            (encodes_implied formula counted_numbers counted_run counted-encodes (visited_watched at) (visited_trailed at) other level at_level within
+            (encodes_implied formula counted_numbers counted_run counted-encodes (visited_watched at) (visited_trailed at) other level refl within
             seeking.untrue (unfalse e))
 
         implied : visit formula q c at.run ≡ implied_run
