@@ -1,10 +1,5 @@
-use native.Mathlib.Omega.{arith}
-use lib.ListN.{length-set}
 use Rattle.engine.proofs.lists.PushLaws.{slot_pushed_front}
 use Rattle.engine.proofs.lists.push_front.Goals as goal
-
-pub bounds-session-head-2 : goal.bounds-session-head-2
-bounds-session-head-2 c = simp length-set (omega arith)
 
 pub returns : goal.returns
 returns c =

@@ -5,9 +5,6 @@ use Rattle.engine.proofs.opening.assign_units.Goals as goal
 pub loop-c-init : goal.loop-c-init
 loop-c-init c = units_begin _ _ c.requires.0 c.requires.1
 
-pub assign_unit-requires : goal.assign_unit-requires
-assign_unit-requires c = (units_at _ _ c.requires.0 c.loop-c.c c.loop-c.invariant, omega arith)
-
 pub returns-then-assign_unit : goal.returns-then-assign_unit
 returns-then-assign_unit c =
     units_conflict _ _ c.requires.0 c.loop-c.c (omega arith) c.loop-c.invariant _ c.if-assign_unit.true (c.assign_unit.ensures (units_at _ _ c.requires.0 c.loop-c.c c.loop-c.invariant))

@@ -1,26 +1,9 @@
 use Rattle.std.proofs.Common.{arith}
-use Rattle.engine.proofs.propagation.Laws.{propagating_begins, propagating_stands, propagating_ends, propagating_next, propagating_again as fixpoint-more, propagating_conflict, next_bounds, next_fits, next_opposite, reading_on_begins, reading_on_none, visiting_clause, visited_on, visited_fewer, visited_ends}
+use Rattle.engine.proofs.propagation.Laws.{propagating_stands, propagating_ends, propagating_next, propagating_again as fixpoint-more, propagating_conflict, next_bounds, next_fits, next_opposite, reading_on_begins, reading_on_none, visiting_clause, visited_on, visited_fewer, visited_ends}
 use Rattle.engine.proofs.propagation.propagate.Goals as goal
-
-pub bounds-session-2 : goal.bounds-session-2
-bounds-session-2 c = omega (arith, c.requires.encodes.long)
 
 pub returns-then-session-ne0 : goal.returns-then-session-ne0
 returns-then-session-ne0 c = propagating_stands c.args.book.now c.if-session-ne0.true
-
-pub propagating-init : goal.propagating-init
-propagating-init c = propagating_begins c.args.book.now c.if-session-ne0.false
-
-pub bounds-session-0 : goal.bounds-session-0
-bounds-session-0 c = omega (arith, (c.propagating.invariant c.requires).becomes.encodes.long)
-
-pub overflow_add-at : goal.overflow_add-at
-overflow_add-at c =
-    let next = next_bounds _ (propagating_next _ c.requires.well (c.propagating.invariant c.requires) c.propagating-test.true) in omega arith
-
-pub offset_bounds-session-at : goal.offset_bounds-session-at
-offset_bounds-session-at c =
-    let next = next_bounds _ (propagating_next _ c.requires.well (c.propagating.invariant c.requires) c.propagating-test.true) in omega arith
 
 pub bounds-session-at : goal.bounds-session-at
 bounds-session-at c =
@@ -54,10 +37,6 @@ loop-walk-smaller c =
 pub loop-walk-preserved : goal.loop-walk-preserved
 loop-walk-preserved c next =
     visited_on _ c.requires.well (c.loop-walk.invariant next) c.loop-walk-test.true _ c.visit_clause.ensures _ c.in-Some.is
-
-pub overflow_add-literal : goal.overflow_add-literal
-overflow_add-literal c =
-    let next = next_bounds _ (propagating_next _ c.requires.well (c.propagating.invariant c.requires) c.propagating-test.true) in omega arith
 
 pub propagating-smaller : goal.propagating-smaller
 propagating-smaller c =
