@@ -21,7 +21,7 @@ use Rattle.run.proofs.Trails.{place_true, place_of_literal}
 use Rattle.run.proofs.Opposites.{opposite_cases}
 use Rattle.run.proofs.Inductions.{next_read, read_next, propagate_stops, propagate_done}
 use Rattle.run.proofs.Conflicts.{quiet_out}
-use Rattle.run.specs.Progress.{Going, Ended, ReadingList}
+use Rattle.run.specs.Progress.{Going, ReadingList}
 use Rattle.run.proofs.Visits.{visit_outcome}
 use Rattle.run.proofs.Validity.{reading_begins, reading_ends, trail_short, fuel_enough}
 use Rattle.layout.specs.Layout.{Fits, required_length, length_at, conflict_at, trail_at}
@@ -107,14 +107,6 @@ module _ (book : List ℕ) where
   formula = formula_of book
 
   -- it begins, or a conflict is there already
-  pub propagating_begins : {numbers : List ℕ} {handled : ℕ} → get_or numbers conflict_at 0 ≡ 0 → (at : Propagating book numbers handled)
-      → Propagation book numbers numbers handled handled at.run
-  propagating_begins {numbers} {handled} z at =
-      record { run = at.run; becomes = becomes_self at.encodes; going = ⊎_elim (λ g. g) loud at.state; rest = refl }
-    where
-      loud : Ended formula at.run → Going formula handled at.run
-      loud e = absurd (never e.loud (quiet_out at.run (sym at.encodes.conflict ∙ z)))
-
   pub propagating_stands : {numbers : List ℕ} {handled : ℕ} → (get_or numbers conflict_at 0 ≡ 0 → ⊥) → (at : Propagating book numbers handled)
       → Becomes book numbers numbers (propagate formula handled at.run)
   propagating_stands {numbers} {handled} n at =

@@ -2,7 +2,7 @@
 use Rattle.std.specs.Prelude.{Option, Some, None}
 use Prim.Native.Nat.{ℕ, suc, ◌+◌, ◌*◌, ◌≤◌, ◌<◌, min}
 use native.Mathlib.Omega.{arith}
-use mathlib.Core.Bool.{Bool, true, false, false≢true}
+use mathlib.Core.Bool.{Bool, true, false}
 use mathlib.Core.List.{List, [], ◌∷◌, ◌++◌}
 use mathlib.Core.Option.{none, some}
 use mathlib.Core.Path.{◌≡◌, refl, sym, ap, ◌∙◌, subst}
@@ -25,7 +25,7 @@ use Rattle.run.specs.Progress.{Watched}
 use Rattle.layout.specs.Layout.{decisions_at, conflict_at, length_at, checks_at, required_length, clause_of_node}
 use Rattle.layout.specs.Encodes.{Encodes}
 use Rattle.layout.specs.declared.values.Value.{Value}
-use Rattle.layout.specs.declared.values.Value.TheVariants.{Open, True, False}
+use Rattle.layout.specs.declared.values.Value.TheVariants.{Open, False}
 use Rattle.engine.specs.Engine.{SameBehind}
 use Rattle.engine.specs.Inner.Lists.{Lists, Walking, Unlisted, KeptOn, TakenOut, PushedFront, linked}
 use Rattle.engine.specs.Inner.Trail.{SameBeside, assign_nums}
@@ -94,10 +94,6 @@ module _ {book numbers : List ℕ} {walk : Walk} {other : ℕ} {value : Value} (
 
   untrue : is_true trail (other_watch clause cell q) ≡ false
   untrue = rw (← seeking.other_is) seeking.untrue
-
-  -- so its value is not true
-  pub never_true : value ≡ True → ⊥
-  never_true e = false≢true (sym seeking.untrue ∙ (subst (ValueSays trail other) e seeking.says).0)
 
   -- a position is found
   module _ (position made : ℕ) (found : record { found = some position; checks = made } ≡ scan trail clause cell) where
