@@ -21,12 +21,10 @@ fn watch_clause(book: &[u32], session: &mut [u32], c: usize)
     let [first, second, ..] = *clause(book, c) else {
         return;
     };
-    let variables = book::variables(book);
-    let clauses = book::clauses(book);
     let node = (2 * c) as u32;
-    set_watch(session, variables, clauses, node + 2, 1);
-    push_front(session, variables, clauses, first, node + 1);
-    push_front(session, variables, clauses, second, node + 2);
+    set_watch(book, session, node + 2, 1);
+    push_front(book, session, first, node + 1);
+    push_front(book, session, second, node + 2);
 }
 
 // The first watches of all clauses, in book order.

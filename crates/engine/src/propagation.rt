@@ -17,12 +17,10 @@ pub(crate) fn propagate(book: &[u32], session: &mut [u32], handled: usize)
     if session[CONFLICT] != 0 {
         return;
     }
-    let variables = book::variables(book);
-    let clauses = book::clauses(book);
     let mut at = handled;
     'propagating: while at < session[LENGTH] as usize {
         let literal = session[TRAIL + at];
-        let mut walk = lists::first(session, variables, clauses, opposite(literal));
+        let mut walk = lists::first(book, session, opposite(literal));
         while walk.node != 0 {
             let Some(next) = visit_clause(book, session, walk) else {
                 break 'propagating;

@@ -1,7 +1,7 @@
 // One clause of the list that is read.
 ghost use Rattle.std.specs.Prelude.{◌≡◌, ◌*◌, ◌≤◌, ◌<◌, length};
 ghost use Rattle.book.specs.Formula.{max_clauses};
-ghost use Rattle.book.specs.Numbers.{formula_of};
+ghost use Rattle.book.specs.Numbers.{variables_of, clauses_of, formula_of};
 ghost use Rattle.run.specs.Scan.{scan};
 ghost use Rattle.run.specs.Run.{clause_of, cell_of};
 ghost use Rattle.layout.specs.Layout.{Fits};
@@ -38,18 +38,14 @@ fn add_checks(session: &mut [u32], slot: usize, made: u32)
 }
 
 // Stores the position of a node's watch, and the pointer with it.
-pub(crate) fn set_watch(
-    session: &mut [u32],
-    variables: usize,
-    clauses: usize,
-    node: u32,
-    position: u32,
-)
-    requires { Fits variables clauses session.old × (1 ≤ node) × (node ≤ 2 * clauses) }
-    ensures { session.new ≡ watch_nums variables clauses session.old node position }
+pub(crate) fn set_watch(book: &[u32], session: &mut [u32], node: u32, position: u32)
+    requires { Fits (variables_of book.now) (clauses_of book.now) session.old × (1 ≤ node) × (node ≤ 2 * clauses_of book.now) }
+    ensures { session.new ≡ watch_nums (variables_of book.now) (clauses_of book.now) session.old node position }
 {
+    let variables = book::variables(book);
+    let pointers = pointers_at(variables, book::clauses(book));
     session[watch_slot(variables, node)] = position;
-    session[pointers_at(variables, clauses) + clause_of_node(node)] = position;
+    session[pointers + clause_of_node(node)] = position;
 }
 
 // The scan of clause c.
@@ -58,12 +54,12 @@ fn scan_at(book: &[u32], session: &[u32], c: usize) -> Scan
     ensures { (scannable : Scannable book.now session.now c) → scanned_in result ≡ scan scannable.run.trail (clause_of (formula_of book.now) c) (cell_of scannable.run c) }
 {
     let variables = book::variables(book);
-    let clauses = book::clauses(book);
     let values = values_at(variables);
     let watches = watches_at(variables);
+    let pointers = pointers_at(variables, book::clauses(book));
     let first = session[watches + 2 * c] as usize;
     let second = session[watches + 2 * c + 1] as usize;
-    let pointer = session[pointers_at(variables, clauses) + c] as usize;
+    let pointer = session[pointers + c] as usize;
     scan_clause(
         clause(book, c),
         &session[values..watches],
@@ -86,22 +82,20 @@ fn seek(
     ensures { (seeking : Seeking book.now session.old walk other value) → Visited book.now session.old session.new seeking.at result }
 {
     let variables = book::variables(book);
-    let clauses = book::clauses(book);
-    let node = walk.node;
-    let c = clause_of_node(node);
-    let count = checks_at(variables, clauses) + c;
+    let c = clause_of_node(walk.node);
+    let count = checks_at(variables, book::clauses(book)) + c;
     let scan = scan_at(book, session, c);
     if let Some(position) = scan.found {
-        let to = clause(book, c)[position];
-        let next = take_out(session, variables, clauses, walk);
-        set_watch(session, variables, clauses, node, position as u32);
-        push_front(session, variables, clauses, to, node);
+        let literal = clause(book, c)[position];
+        let next = take_out(book, session, walk);
+        set_watch(book, session, walk.node, position as u32);
+        push_front(book, session, literal, walk.node);
         add_checks(session, count, scan.checks);
         return Some(next);
     }
     add_checks(session, count, scan.checks);
     match value {
-        Value::True => Some(keep(session, variables, clauses, walk)),
+        Value::True => Some(keep(book, session, walk)),
         Value::False => {
             session[CONFLICT] = c as u32 + 1;
             None
@@ -109,7 +103,7 @@ fn seek(
         Value::Open => {
             let level = session[DECISIONS];
             assign(session, variables, other, level);
-            Some(keep(session, variables, clauses, walk))
+            Some(keep(book, session, walk))
         }
     }
 }
@@ -121,13 +115,12 @@ pub(crate) fn visit_clause(book: &[u32], session: &mut [u32], walk: Walk) -> Opt
     ensures { (at : Visiting book.now session.old walk) → Visited book.now session.old session.new at result }
 {
     let variables = book::variables(book);
-    let clauses = book::clauses(book);
     let watch = session[watch_slot(variables, other_node(walk.node))] as usize;
     let other = clause(book, clause_of_node(walk.node))[watch];
     let value = literal_value(session, variables, other);
     let satisfied = value == Value::True;
     if satisfied {
-        return Some(keep(session, variables, clauses, walk));
+        return Some(keep(book, session, walk));
     }
     seek(book, session, walk, other, value)
 }

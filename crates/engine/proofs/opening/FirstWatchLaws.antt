@@ -285,14 +285,13 @@ module _ (book : List ℕ) (c : ℕ) (well : well_formed book ≡ true) (inside-
           holds = λ k. subst (FirstWatches book twice) (sym (add-one c)) (first_next k);
         }
 
-  pub first_some : (vars many : ℕ) (literals numbers : List ℕ) {stored once twice : List ℕ} → vars ≡ variables_of book → many ≡ clauses_of book
-      → literals ≡ clause_at book c → 2 ≤ length literals → stored ≡ watch_nums vars many numbers (2 * c + 2) 1
-      → PushedFront linked vars many stored once (get_or literals 0 0) (2 * c + 1)
-      → PushedFront linked vars many once twice (get_or literals 1 0) (2 * c + 2) → WatchedFirst book numbers twice c
-  first_some vars many literals numbers vars-is many_is read two stored_is first-push second-push =
+  pub first_some : (literals numbers : List ℕ) {stored once twice : List ℕ} → literals ≡ clause_at book c → 2 ≤ length literals
+      → stored ≡ watch_nums (variables_of book) (clauses_of book) numbers (2 * c + 2) 1
+      → PushedFront linked (variables_of book) (clauses_of book) stored once (get_or literals 0 0) (2 * c + 1)
+      → PushedFront linked (variables_of book) (clauses_of book) once twice (get_or literals 1 0) (2 * c + 2) → WatchedFirst book numbers twice c
+  first_some literals numbers read two stored_is first-push second-push =
       let is = read ∙ sym (clause_of_formula book c inside-book) in
-      first-stored (rw is at two) numbers (rw (vars-is, many_is) at stored_is)
-      (rw (vars-is, many_is, is) at first-push) (rw (vars-is, many_is, is) at second-push)
+      first-stored (rw is at two) numbers stored_is (rw is at first-push) (rw is at second-push)
 
 -- all clauses have them
 pub watches_end : {book before numbers : List ℕ} (c : ℕ) → clauses_of book ≤ c → length numbers ≡ length before → SameBehind book before numbers

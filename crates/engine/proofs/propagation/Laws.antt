@@ -152,8 +152,8 @@ module _ (book : List ℕ) where
         high = literal.2;
       }
 
-  pub next_fits : {numbers : List ℕ} {i : ℕ} (vars many : ℕ) → vars ≡ variables_of book → many ≡ clauses_of book → Next book numbers i → Fits vars many numbers
-  next_fits vars many vars-is many_is n = session_fits vars many vars-is many_is (held_fits n.well n.encodes)
+  pub next_fits : {numbers : List ℕ} {i : ℕ} → Next book numbers i → Fits (variables_of book) (clauses_of book) numbers
+  next_fits n = session_fits (variables_of book) (clauses_of book) refl refl (held_fits n.well n.encodes)
 
   pub next_opposite : {numbers : List ℕ} {i : ℕ} (q : ℕ) → Next book numbers i → q ≡ opposite (get_or numbers (trail_at + i) 0)
       → (2 ≤ q) × (q ≤ 2 * variables_of book + 1)
@@ -161,16 +161,17 @@ module _ (book : List ℕ) where
       let literal = next_literal n in
       ⊎_elim (λ o. (omega arith, omega arith)) (λ o. (omega arith, omega arith)) (opposite_cases (get_or numbers (trail_at + i) 0))
 
-  lists_at_lem : {handled q : ℕ} {unread numbers : List ℕ} {run : Run} (vars many : ℕ) → vars ≡ variables_of book → many ≡ clauses_of book → well_formed book ≡ true
-      → Encodes formula numbers run → ReadingList formula handled q unread run → Lists linked vars many numbers formula run.cells run.lists
-  lists_at_lem vars many vars-is many_is w e r =
-      lists_of vars many (sym vars-is) (clauses_counted book ∙ sym many_is) (well_formed_sound book w) r.going.structure.watched e
+  lists_at_lem : {handled q : ℕ} {unread numbers : List ℕ} {run : Run} → well_formed book ≡ true
+      → Encodes formula numbers run → ReadingList formula handled q unread run
+      → Lists linked (variables_of book) (clauses_of book) numbers formula run.cells run.lists
+  lists_at_lem w e r =
+      lists_of (variables_of book) (clauses_of book) refl (clauses_counted book) (well_formed_sound book w) r.going.structure.watched e
 
   -- its list begins to be read
-  pub reading_on_begins : {numbers : List ℕ} {i : ℕ} (vars many q : ℕ) (walk : Walk) → vars ≡ variables_of book → many ≡ clauses_of book
-      → q ≡ opposite (get_or numbers (trail_at + i) 0) → Begun linked vars many numbers q walk → (n : Next book numbers i)
+  pub reading_on_begins : {numbers : List ℕ} {i : ℕ} (q : ℕ) (walk : Walk) → q ≡ opposite (get_or numbers (trail_at + i) 0)
+      → Begun linked (variables_of book) (clauses_of book) numbers q walk → (n : Next book numbers i)
       → (unread : List ℕ) × ReadingOn book numbers numbers i walk n.run unread
-  reading_on_begins {numbers} {i} vars many q walk vars-is many_is q-is begun n = (list_of n.run.lists q, go (q-is ∙ ap opposite (next_literal n).0))
+  reading_on_begins {numbers} {i} q walk q-is begun n = (list_of n.run.lists q, go (q-is ∙ ap opposite (next_literal n).0))
     where
       go : q ≡ next_read i n.run → ReadingOn book numbers numbers i walk n.run (list_of n.run.lists q)
       go e =
@@ -181,16 +182,16 @@ module _ (book : List ℕ) where
             passed = [];
             becomes = becomes_self n.encodes;
             reading = reading;
-            walking = begun.walking (lists_at_lem vars many vars-is many_is n.well n.encodes reading);
+            walking = begun.walking (lists_at_lem n.well n.encodes reading);
             rest = rw e;
           }
 
   module _ {before numbers : List ℕ} {i : ℕ} {walk : Walk} {first : Run} where
     -- how many clauses are left
-    reading_on_left : (unread : List ℕ) (vars many : ℕ) → well_formed book ≡ true → vars ≡ variables_of book → many ≡ clauses_of book
-        → ReadingOn book before numbers i walk first unread → left_of vars many numbers walk ≡ length unread
-    reading_on_left unread vars many w vars-is many_is p =
-        walking_left (lists_at_lem vars many vars-is many_is w p.becomes.encodes p.reading) unread p.walking
+    reading_on_left : (unread : List ℕ) → well_formed book ≡ true → ReadingOn book before numbers i walk first unread
+        → left_of (variables_of book) (clauses_of book) numbers walk ≡ length unread
+    reading_on_left unread w p =
+        walking_left (lists_at_lem w p.becomes.encodes p.reading) unread p.walking
 
     -- a walk that is not at the end stands at a clause
     pub reading_on_more : (unread : List ℕ) × ReadingOn book before numbers i walk first unread → (walk.node ≡ 0 → ⊥)
@@ -273,11 +274,11 @@ module _ (book : List ℕ) where
       visited_on next e = (at_clause.1, on next e)
 
       -- the walk that goes on has fewer clauses left
-      pub visited_fewer : (next : Walk) → r ≡ Some next → (vars many : ℕ) → vars ≡ variables_of book → many ≡ clauses_of book
-          → left_of vars many after next < left_of vars many numbers walk
-      visited_fewer next e vars many vars-is many_is =
-          let now = reading_on_left (at_clause.0 ∷ at_clause.1) vars many w vars-is many_is at_clause.2 in
-          let later = reading_on_left at_clause.1 vars many w vars-is many_is (on next e) in
+      pub visited_fewer : (next : Walk) → r ≡ Some next
+          → left_of (variables_of book) (clauses_of book) after next < left_of (variables_of book) (clauses_of book) numbers walk
+      visited_fewer next e =
+          let now = reading_on_left (at_clause.0 ∷ at_clause.1) w at_clause.2 in
+          let later = reading_on_left at_clause.1 w (on next e) in
           omega arith
 
       pub visited_ends : r ≡ None → Becomes book before after (read_next formula i first) × (in_conflict (read_next formula i first) ≡ true)

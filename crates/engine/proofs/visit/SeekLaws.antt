@@ -205,13 +205,14 @@ module _ {book numbers : List ℕ} {walk : Walk} {other : ℕ} {value : Value} (
           filled : ℕ
           filled = min (get_or pushed place 0 + made) max_count
 
-    pub visited_moved : (vars many count d : ℕ) (literals : List ℕ) {taken stored pushed after : List ℕ} (next : Walk) → vars ≡ variables_of book
-        → many ≡ clauses_of book → count ≡ checks_at vars many + clause_of_node walk.node → d ≡ clause_of_node walk.node → literals ≡ clause_at book d
-        → TakenOut linked vars many numbers taken walk next → stored ≡ watch_nums vars many taken walk.node position
-        → PushedFront linked vars many stored pushed (get_or literals position 0) walk.node → after ≡ count_nums pushed count made → Visited book numbers after at (Some next)
-    visited_moved vars many count d literals {taken} {stored} {pushed} {after} next vars-is many_is count_is d-is read took stored_is push after_is =
-        moved-visited (rw (vars-is, many_is) at took) (rw (vars-is, many_is) at stored_is)
-        (rw (vars-is, many_is, literals_read at d literals d-is read) at push)
+    pub visited_moved : (count d : ℕ) (literals : List ℕ) {taken stored pushed after : List ℕ} (next : Walk)
+        → count ≡ checks_at (variables_of book) (clauses_of book) + clause_of_node walk.node → d ≡ clause_of_node walk.node → literals ≡ clause_at book d
+        → TakenOut linked (variables_of book) (clauses_of book) numbers taken walk next
+        → stored ≡ watch_nums (variables_of book) (clauses_of book) taken walk.node position
+        → PushedFront linked (variables_of book) (clauses_of book) stored pushed (get_or literals position 0) walk.node
+        → after ≡ count_nums pushed count made → Visited book numbers after at (Some next)
+    visited_moved count d literals {taken} {stored} {pushed} {after} next count_is d-is read took stored_is push after_is =
+        moved-visited took stored_is (rw (literals_read at d literals d-is read) at push)
         (after_is ∙ ap (λ (x : ℕ). count_nums pushed x made) (omega (arith, clause_is at, clauses_counted book)))
 
   -- no position is found
@@ -239,9 +240,8 @@ module _ {book numbers : List ℕ} {walk : Walk} {other : ℕ} {value : Value} (
     abbrev counted_run : Run
     counted_run = counted c made at.run
 
-    count-place : (vars many count : ℕ) → vars ≡ variables_of book → many ≡ clauses_of book → count ≡ checks_at vars many + clause_of_node walk.node
-        → count ≡ place-count
-    count-place vars many count vars-is many_is count_is = omega (arith, clause_is at, clauses_counted book)
+    count-place : (count : ℕ) → count ≡ checks_at (variables_of book) (clauses_of book) + clause_of_node walk.node → count ≡ place-count
+    count-place count count_is = omega (arith, clause_is at, clauses_counted book)
 
     counted-encodes : Encodes formula counted_numbers counted_run
     counted-encodes =
@@ -255,11 +255,11 @@ module _ {book numbers : List ℕ} {walk : Walk} {other : ℕ} {value : Value} (
         drop-set-lt (required_length (variables_of book) (clauses_of book)) numbers place-count (min (get_or numbers place-count 0 + made) max_count)
         (let i = clause_inside_formula at in omega (arith, clauses_counted book))
 
-    pub visited_conflict : value ≡ False → (vars many count d : ℕ) (now : List ℕ) → vars ≡ variables_of book → many ≡ clauses_of book
-        → count ≡ checks_at vars many + clause_of_node walk.node → d ≡ clause_of_node walk.node → now ≡ count_nums numbers count made
+    pub visited_conflict : value ≡ False → (count d : ℕ) (now : List ℕ)
+        → count ≡ checks_at (variables_of book) (clauses_of book) + clause_of_node walk.node → d ≡ clause_of_node walk.node → now ≡ count_nums numbers count made
         → Visited book numbers (set now conflict_at (d + 1)) at None
     unfolding perform_action counted with_conflict
-    visited_conflict e vars many count d now vars-is many_is count_is d-is now_is =
+    visited_conflict e count d now count_is d-is now_is =
         visited_by at (set now conflict_at (d + 1)) None (with_conflict (suc c) counted_run) (visit-conflicts e)
         (rw final (encodes_conflict (suc c) (visited_watched at) counted-encodes))
         (rw final (length-set counted_numbers conflict_at (suc c) ∙ counted-length))
@@ -270,31 +270,31 @@ module _ {book numbers : List ℕ} {walk : Walk} {other : ℕ} {value : Value} (
         next-is = omega (arith, clause_is at)
 
         final : set now conflict_at (d + 1) ≡ set counted_numbers conflict_at (suc c)
-        final = rw (now_is, count-place vars many count vars-is many_is count_is, next-is)
+        final = rw (now_is, count-place count count_is, next-is)
 
     within : literal_within (variables_of book) other ≡ true
     within = ap (literal_within (variables_of book)) seeking.other_is ∙ other_within at
 
     -- an assignment has what it asks
-    pub implied_asks : value ≡ Open → (vars many count : ℕ) (now : List ℕ) → vars ≡ variables_of book → many ≡ clauses_of book
-        → count ≡ checks_at vars many + clause_of_node walk.node → now ≡ count_nums numbers count made
+    pub implied_asks : value ≡ Open → (vars count : ℕ) (now : List ℕ) → vars ≡ variables_of book
+        → count ≡ checks_at (variables_of book) (clauses_of book) + clause_of_node walk.node → now ≡ count_nums numbers count made
         → (get_or now length_at 0 < vars) × (2 ≤ other) × (variable_of other ≤ vars)
     unfolding counted
-    implied_asks e vars many count now vars-is many_is count_is now_is =
+    implied_asks e vars count now vars-is count_is now_is =
         let bounds = literal_parts (variables_of book) other within in (
-          rw (now_is, count-place vars many count vars-is many_is count_is, counted-encodes.trail.count, vars-is)
+          rw (now_is, count-place count count_is, counted-encodes.trail.count, vars-is)
               (trail_room (visited_trailed at) other within seeking.untrue (unfalse e)),
           bounds.0,
           let b = bounds.1 in omega arith,
         )
 
-    pub visited_implied : value ≡ Open → (vars many count : ℕ) (now after : List ℕ) (next : Walk) → vars ≡ variables_of book → many ≡ clauses_of book
-        → count ≡ checks_at vars many + clause_of_node walk.node → now ≡ count_nums numbers count made
+    pub visited_implied : value ≡ Open → (vars count : ℕ) (now after : List ℕ) (next : Walk) → vars ≡ variables_of book
+        → count ≡ checks_at (variables_of book) (clauses_of book) + clause_of_node walk.node → now ≡ count_nums numbers count made
         → after ≡ assign_nums vars now other (get_or now decisions_at 0)
-        → KeptOn linked vars many after walk next
+        → KeptOn linked (variables_of book) (clauses_of book) after walk next
         → Visited book numbers after at (Some next)
     unfolding perform_action counted on_trail
-    visited_implied e vars many count now after next vars-is many_is count_is now_is after_is kept =
+    visited_implied e vars count now after next vars-is count_is now_is after_is kept =
         visited_by at after (Some next) implied_run implied encodes
         (rw final (beside.same_length ∙ counted-length))
         (rw final (beside_behind beside (required_length (variables_of book) (clauses_of book)) (omega arith) ∙ counted-behind)) (
@@ -302,7 +302,7 @@ module _ {book numbers : List ℕ} {walk : Walk} {other : ℕ} {value : Value} (
           (
             at.passed ++ (c ∷ []),
             kept.walking
-                (lists_of {run = implied_run} vars many (sym vars-is) (clauses_counted book ∙ sym many_is) (well_sound at) (visited_watched at) encodes)
+                (lists_of {run = implied_run} (variables_of book) (clauses_of book) refl (clauses_counted book) (well_sound at) (visited_watched at) encodes)
                 at.walking,
           ),
         )
@@ -314,10 +314,10 @@ module _ {book numbers : List ℕ} {walk : Walk} {other : ℕ} {value : Value} (
         level = get_or counted_numbers decisions_at 0
 
         counted_now : now ≡ counted_numbers
-        counted_now = now_is ∙ rw (count-place vars many count vars-is many_is count_is)
+        counted_now = now_is ∙ rw (count-place count count_is)
 
         asks : (get_or now length_at 0 < vars) × (2 ≤ other) × (variable_of other ≤ vars)
-        asks = implied_asks e vars many count now vars-is many_is count_is now_is
+        asks = implied_asks e vars count now vars-is count_is now_is
 
         beside : SameBeside (variables_of book) counted_numbers (assign_nums (variables_of book) counted_numbers other level)
         beside = assign_beside (variables_of book) counted_numbers other level (rw (counted_now, vars-is) at asks.0) asks.1 (rw vars-is at asks.2)

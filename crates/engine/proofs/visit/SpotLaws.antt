@@ -120,12 +120,6 @@ module _ {book numbers : List ℕ} {walk : Walk} (at : Visiting book numbers wal
         other_high = others.1;
       }
 
-  pub spot_fits : (vars many : ℕ) → vars ≡ variables_of book → many ≡ clauses_of book → Fits vars many numbers
-  spot_fits vars many vars-is many_is = rw (vars-is, many_is) spot.fits
-
-  pub spot_standing : (vars many : ℕ) → vars ≡ variables_of book → many ≡ clauses_of book → Standing vars many walk
-  spot_standing vars many vars-is many_is = rw (vars-is, many_is) spot.standing
-
   -- the literals of the clause, as the code reads them
   pub literals_read : (d : ℕ) (literals : List ℕ) → d ≡ clause_of_node walk.node → literals ≡ clause_at book d
       → literals ≡ clause_of (formula_of book) at.clause
@@ -185,14 +179,14 @@ module _ {book numbers : List ℕ} {walk : Walk} (at : Visiting book numbers wal
       record { encodes = rw e encodes; same_length = long; same_behind = behind; says = rw e says }
 
   -- the other watch is true: the clause stays
-  pub visited_stays : (vars many l : ℕ) (next : Walk) → vars ≡ variables_of book → many ≡ clauses_of book
+  pub visited_stays : (vars l : ℕ) (next : Walk) → vars ≡ variables_of book
       → l ≡ other_watch (clause_of (formula_of book) at.clause) (cell_of at.run at.clause) at.q
       → (r : Value) → r ≡ value_read (get_or numbers (value_slot vars l) 0) l → sameb the_type r True ≡ true
-      → KeptOn linked vars many numbers walk next → Visited book numbers numbers at (Some next)
+      → KeptOn linked (variables_of book) (clauses_of book) numbers walk next → Visited book numbers numbers at (Some next)
   unfolding visit action perform_action
-  visited_stays vars many l next vars-is many_is l-is r r-is told kept =
+  visited_stays vars l next vars-is l-is r r-is told kept =
       visited_by numbers (Some next) at.run (rw t) at.encodes refl refl
-      (at.reading.going.quiet, (at.passed ++ (c ∷ []), (rw (vars-is, many_is) at kept).walking visited_lists at.walking))
+      (at.reading.going.quiet, (at.passed ++ (c ∷ []), kept.walking visited_lists at.walking))
     where
       t : is_true at.run.trail other ≡ true
       t = ap (is_true at.run.trail) (sym l-is) ∙ sym (says_true at.run.trail l r (other_says vars l r vars-is l-is r-is)) ∙ told

@@ -17,11 +17,11 @@ pub first-walk-requires : goal.first-walk-requires
 first-walk-requires c =
     let next = propagating_next _ c.requires.well (c.propagating.invariant c.requires) c.propagating-test.true in
     let bounds = next_opposite _ _ next c.opposite.ensures in
-    (next_fits _ _ _ c.variables-variables.ensures c.clauses-clauses.ensures next, bounds.0, omega arith)
+    (next_fits _ next, bounds.0, omega arith)
 
 pub loop-walk-init : goal.loop-walk-init
 loop-walk-init c =
-    reading_on_begins _ _ _ _ c.first-walk.result c.variables-variables.ensures c.clauses-clauses.ensures c.opposite.ensures c.first-walk.ensures
+    reading_on_begins _ _ c.first-walk.result c.opposite.ensures c.first-walk.ensures
 
 pub visit_clause-requires : goal.visit_clause-requires
 visit_clause-requires c =
@@ -31,8 +31,7 @@ visit_clause-requires c =
 pub loop-walk-smaller : goal.loop-walk-smaller
 loop-walk-smaller c =
     let next = propagating_next _ c.requires.well (c.propagating.invariant c.requires) c.propagating-test.true in
-    visited_fewer _ c.requires.well (c.loop-walk.invariant next) c.loop-walk-test.true _ c.visit_clause.ensures _ c.in-Some.is _ _
-    c.variables-variables.ensures c.clauses-clauses.ensures
+    visited_fewer _ c.requires.well (c.loop-walk.invariant next) c.loop-walk-test.true _ c.visit_clause.ensures _ c.in-Some.is
 
 pub loop-walk-preserved : goal.loop-walk-preserved
 loop-walk-preserved c next =

@@ -8,18 +8,18 @@ values_at-values-requires c = let fits = scan_fits c.requires in omega arith
 pub watches_at-watches-requires : goal.watches_at-watches-requires
 watches_at-watches-requires c = let fits = scan_fits c.requires in omega arith
 
-pub pointers_at-requires : goal.pointers_at-requires
-pointers_at-requires c = let fits = scan_fits c.requires in (omega arith, omega arith)
+pub pointers_at-pointers-requires : goal.pointers_at-pointers-requires
+pointers_at-pointers-requires c = let fits = scan_fits c.requires in (omega arith, omega arith)
 
-pub bounds-session-pointers_at : goal.bounds-session-pointers_at
-bounds-session-pointers_at c = let fits = scan_fits c.requires in omega arith
+pub bounds-session-pointers : goal.bounds-session-pointers
+bounds-session-pointers c = let fits = scan_fits c.requires in omega arith
 
 pub scan_clause-requires : goal.scan_clause-requires
 scan_clause-requires c =
-    scanned_ready c.requires _ _ _ _ _ _ c.variables-variables.ensures c.clauses-clauses.ensures c.values_at-values.ensures
-    c.watches_at-watches.ensures c.pointers_at.ensures c.clause.ensures
+    scanned_ready c.requires _ _ _ _ _ _ c.variables-variables.ensures c.clauses.ensures c.values_at-values.ensures
+    c.watches_at-watches.ensures c.pointers_at-pointers.ensures c.clause.ensures
 
 pub returns : goal.returns
 returns c s =
-    scanned_is s _ _ _ _ _ _ c.variables-variables.ensures c.clauses-clauses.ensures c.values_at-values.ensures
-    c.watches_at-watches.ensures c.pointers_at.ensures c.clause.ensures _ c.scan_clause.ensures
+    scanned_is s _ _ _ _ _ _ c.variables-variables.ensures c.clauses.ensures c.values_at-values.ensures
+    c.watches_at-watches.ensures c.pointers_at-pointers.ensures c.clause.ensures _ c.scan_clause.ensures

@@ -1,7 +1,6 @@
 use Rattle.std.proofs.Common.{◌∙◌, sym, ap₂, arith}
 use Rattle.layout.specs.Layout.{watch_slot}
-use Rattle.layout.proofs.FitsLaws.{fits_trail}
-use Rattle.engine.proofs.visit.SpotLaws.{spot, spot_fits, spot_standing, other_watch_lem, other_bounded, visited_stays, visited_seeks, visited_sought}
+use Rattle.engine.proofs.visit.SpotLaws.{spot, other_watch_lem, other_bounded, visited_stays, visited_seeks, visited_sought}
 use Rattle.engine.proofs.visit.visit_clause.Goals as goal
 
 pub other_node-requires : goal.other_node-requires
@@ -27,15 +26,16 @@ pub literal_value-value-requires : goal.literal_value-value-requires
 literal_value-value-requires c =
     let other = other_watch_lem c.requires _ _ _ c.clause_of_node.ensures c.clause.ensures (c.watch_slot.ensures ∙ ap₂ watch_slot c.variables-variables.ensures c.other_node.ensures) in
     let b = other_bounded c.requires _ other.1 in
-    (fits_trail (spot_fits c.requires _ _ c.variables-variables.ensures c.clauses-clauses.ensures), b.0, omega (arith, b.1))
+    let s = spot c.requires in
+    (record { few_variables = omega arith; long = omega arith }, b.0, omega (arith, b.1))
 
 pub keep-requires : goal.keep-requires
 keep-requires c =
-    (spot_fits c.requires _ _ c.variables-variables.ensures c.clauses-clauses.ensures, spot_standing c.requires _ _ c.variables-variables.ensures c.clauses-clauses.ensures)
+    ((spot c.requires).fits, (spot c.requires).standing)
 
 pub returns-then-satisfied : goal.returns-then-satisfied
 returns-then-satisfied c at =
-    visited_stays at _ _ _ c.keep.result c.variables-variables.ensures c.clauses-clauses.ensures
+    visited_stays at _ _ c.keep.result c.variables-variables.ensures
     (other_watch_lem at _ _ _ c.clause_of_node.ensures c.clause.ensures (c.watch_slot.ensures ∙ ap₂ watch_slot c.variables-variables.ensures c.other_node.ensures)).1
     _ c.literal_value-value.ensures (sym c.eq-satisfied.ensures ∙ c.if-satisfied.true) c.keep.ensures
 
