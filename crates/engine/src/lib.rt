@@ -52,7 +52,7 @@ pub fn backtrack(book: &[u32], session: &mut [u32], k: u32)
 {
     cut_levels(session, book::variables(book), k);
     session[CONFLICT] = 0;
-    session[BACKTRACKS] = session[BACKTRACKS] + 1;
+    session[BACKTRACKS] += 1;
 }
 
 // The first f decisions in force are fixed. Nothing else changes.

@@ -21,11 +21,7 @@ fn next_position(n: usize, position: usize) -> usize
     requires { position < n }
     ensures { result ≡ next n position }
 {
-    if position + 1 < n {
-        position + 1
-    } else {
-        0
-    }
+    if position + 1 < n { position + 1 } else { 0 }
 }
 
 // Whether a position is one of the two watches.
@@ -56,14 +52,14 @@ pub(crate) fn scan_clause(
     ensures { (trail : List Entry) → Reads values.now trail → scanned_in result ≡ scan trail clause.now (record { first = first; second = second; pointer = pointer }) }
 {
     let mut position = next_position(clause.len(), pointer);
-    let mut made: u32 = 0;
+    let mut checks: u32 = 0;
     for _ in 0..clause.len() {
         if !is_watched(first, second, position) {
-            made += 1;
+            checks += 1;
             if !is_false(values, clause[position]) {
                 return Scan {
                     found: Some(position),
-                    checks: made,
+                    checks,
                 };
             }
         }
@@ -71,6 +67,6 @@ pub(crate) fn scan_clause(
     }
     Scan {
         found: None,
-        checks: made,
+        checks,
     }
 }

@@ -71,13 +71,7 @@ fn scan_at(book: &[u32], session: &[u32], c: usize) -> Scan
 
 // The search for a new watch of a clause whose other watch is not true. Where there is none, an open other watch is implied, and a false
 // one is a conflict, the answer none; beside a true one, which is not asked for, the clause would stay.
-fn seek(
-    book: &[u32],
-    session: &mut [u32],
-    walk: Walk,
-    other: u32,
-    value: Value,
-) -> Option<Walk>
+fn seek(book: &[u32], session: &mut [u32], walk: Walk, other: u32, value: Value) -> Option<Walk>
     requires { Seeking book.now session.old walk other value }
     ensures { (seeking : Seeking book.now session.old walk other value) → Visited book.now session.old session.new seeking.at result }
 {

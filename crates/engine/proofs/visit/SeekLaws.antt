@@ -84,252 +84,261 @@ module _ {book numbers : List ℕ} {walk : Walk} {other : ℕ} {value : Value} (
         watching = rw (e ∙ clause_is at) (visited_seen at).watching;
       }
 
-  pub seeking_scanned : (r : Scan) (found : Option ℕ) (d : ℕ) → r.found ≡ found → d ≡ clause_of_node walk.node
-      → ((s : Scannable book numbers d) → scanned_in r ≡ scan s.run.trail (clause_of (formula_of book) d) (cell_of s.run d))
-      → record { found = position_in found; checks = r.checks } ≡ scan trail clause cell
-  unfolding seeking_scannable
-  seeking_scanned r found d is e h =
-      ap (λ (x : Option ℕ). record { found = position_in x; checks = r.checks }) (sym is)
-      ∙ h (seeking_scannable d e) ∙ ap (λ (x : ℕ). scan trail (clause_of formula x) (cell_of at.run x)) (e ∙ clause_is at)
-
   untrue : is_true trail (other_watch clause cell q) ≡ false
   untrue = rw (← seeking.other_is) seeking.untrue
 
-  -- a position is found
-  module _ (position made : ℕ) (found : record { found = some position; checks = made } ≡ scan trail clause cell) where
-    abbrev l : ℕ
-    l = get_or clause position 0
+  -- the answer of a scan of the clause
+  module _ (r : Scan) {d : ℕ} (d-is : d ≡ clause_of_node walk.node)
+      (answer : (s : Scannable book numbers d) → scanned_in r ≡ scan s.run.trail (clause_of (formula_of book) d) (cell_of s.run d)) where
+    abbrev made : ℕ
+    made = r.checks
 
-    found_at : (position < size formula c) × (watched cell position ≡ false) × (is_false trail (get_or clause position 0) ≡ false)
-    found_at =
-        scan_found trail clause cell position (pointer_within (size formula c) cell (visited_seen at).watching)
-        (ap (λ (x : Scanned). x.found) (sym found))
+    scanned : (x : Option ℕ) → r.found ≡ x → record { found = position_in x; checks = made } ≡ scan trail clause cell
+    unfolding seeking_scannable
+    scanned x is =
+        ap (λ (y : Option ℕ). record { found = position_in y; checks = made }) (sym is)
+        ∙ answer (seeking_scannable d d-is) ∙ ap (λ (y : ℕ). scan trail (clause_of formula y) (cell_of at.run y)) (d-is ∙ clause_is at)
 
-    -- the literal there, as the code reads it
-    pub found_literal : (d : ℕ) (literals : List ℕ) → d ≡ clause_of_node walk.node → literals ≡ clause_at book d
-        → FoundLiteral book literals position
-    found_literal d literals d-is read =
-        rw (literals_read at d literals d-is read)
-        (let bounds = literal_parts (variables_of book) l (literal_within_lem formula (well_sound at) c position found_at.0) in
-        record { inside = found_at.0; short = let a = found_at.0 in let b = clause_short formula (well_sound at) c in omega arith; low = bounds.0; high = bounds.1 })
+    -- a position is found
+    module _ {position : ℕ} (found_is : r.found ≡ Some position) where
+      found : record { found = some position; checks = made } ≡ scan trail clause cell
+      found = scanned (Some position) found_is
 
-    visit-moves : visit formula q c at.run ≡ perform_action formula q c (moves position made) at.run
-    unfolding visit action scanned_action
-    visit-moves = rw (untrue, ← found)
+      abbrev l : ℕ
+      l = get_or clause position 0
 
-    abbrev cells' : List Cell
-    cells' = set at.run.cells c (moved clause cell q position)
+      found_at : (position < size formula c) × (watched cell position ≡ false) × (is_false trail (get_or clause position 0) ≡ false)
+      found_at =
+          scan_found trail clause cell position (pointer_within (size formula c) cell (visited_seen at).watching)
+          (ap (λ (x : Scanned). x.found) (sym found))
 
-    abbrev out : List (List ℕ)
-    out = take_out at.run.lists q c
+      -- the literal there, as the code reads it
+      pub found_literal : {literals : List ℕ} → literals ≡ clause_at book d → FoundLiteral book literals position
+      found_literal {literals} read =
+          rw (literals_read at d literals d-is read)
+          (let bounds = literal_parts (variables_of book) l (literal_within_lem formula (well_sound at) c position found_at.0) in
+          record { inside = found_at.0; short = let a = found_at.0 in let b = clause_short formula (well_sound at) c in omega arith; low = bounds.0; high = bounds.1 })
 
-    abbrev there : List (List ℕ)
-    there = push_front (take_out at.run.lists q c) l c
+      visit-moves : visit formula q c at.run ≡ perform_action formula q c (moves position made) at.run
+      unfolding visit action scanned_action
+      visit-moves = rw (untrue, ← found)
 
-    abbrev moved_run : Run
-    moved_run = with_watches cells' there at.run
+      abbrev cells' : List Cell
+      cells' = set at.run.cells c (moved clause cell q position)
 
-    here : 0 < times c (list_of at.run.lists q)
-    here = walking_listed at.walking
+      abbrev out : List (List ℕ)
+      out = take_out at.run.lists q c
 
-    watched-after : Watched formula moved_run.cells moved_run.lists
-    unfolding with_watches
-    watched-after =
-        moved_watched formula (well_sound at) at.run.cells at.run.lists (visited_watched at) q c here position found_at.0 found_at.1
+      abbrev there : List (List ℕ)
+      there = push_front (take_out at.run.lists q c) l c
 
-    -- the stores in the order of the code, each with the run that is held then
-    module _ {taken stored pushed : List ℕ} {next : Walk} (took : TakenOut linked (variables_of book) (clauses_of book) numbers taken walk next)
-        (stored_is : stored ≡ watch_nums (variables_of book) (clauses_of book) taken walk.node position)
-        (push : PushedFront linked (variables_of book) (clauses_of book) stored pushed l walk.node) where
-      taken-lists : Lists linked (variables_of book) (clauses_of book) taken formula at.run.cells out
-      taken-lists = took.lists_are (visited_lists at) at.walking
+      abbrev moved_run : Run
+      moved_run = with_watches cells' there at.run
 
-      taken-encodes : Encodes formula taken (with_watches at.run.cells out at.run)
-      taken-encodes = encodes_lists out at.encodes took.only taken-lists
+      here : 0 < times c (list_of at.run.lists q)
+      here = walking_listed at.walking
 
-      turned : Turned c walk.node position cell (cell_at cells' c)
-      turned =
-          subst (λ (x : ℕ). Turned c x position cell (cell_at cells' c)) (sym (walking_node at.walking))
-          (moved_turned formula (well_sound at) at.run.cells at.run.lists (visited_watched at) q c here position found_at.0 found_at.1)
-
-      set_there : WatchSet (variables_of book) (clauses_of book) formula taken stored cells' (with_watches at.run.cells out at.run)
+      watched-after : Watched formula moved_run.cells moved_run.lists
       unfolding with_watches
-      set_there =
-          watch_set cells' inside turned
-          (moved_others formula (well_sound at) at.run.cells at.run.lists (visited_watched at) q c here position found_at.0 found_at.1)
-          (out_same formula (well_sound at) at.run.cells at.run.lists (visited_watched at) q c here position found_at.0 found_at.1)
-          taken-lists taken-encodes stored_is
+      watched-after =
+          moved_watched formula (well_sound at) at.run.cells at.run.lists (visited_watched at) q c here position found_at.0 found_at.1
 
-      pushed-lists : Lists linked (variables_of book) (clauses_of book) pushed formula cells' there
-      unfolding with_watches
-      pushed-lists =
-          push.lists_are c set_there.lists_are (visited_seen at).two
-          (node_moved formula (well_sound at) at.run.cells at.run.lists (visited_watched at) q c here position found_at.0 found_at.1
-          ∙ sym (walking_node at.walking))
-          (subst (Unlisted formula cells' out) (sym (walking_node at.walking))
-          (out_free formula (well_sound at) at.run.cells at.run.lists (visited_watched at) q c here position found_at.0 found_at.1))
+      -- the stores in the order of the code, each with the run that is held then
+      module _ {taken stored pushed : List ℕ} {next : Walk} (took : TakenOut linked (variables_of book) (clauses_of book) numbers taken walk next)
+          (stored_is : stored ≡ watch_nums (variables_of book) (clauses_of book) taken walk.node position)
+          (push : PushedFront linked (variables_of book) (clauses_of book) stored pushed l walk.node) where
+        taken-lists : Lists linked (variables_of book) (clauses_of book) taken formula at.run.cells out
+        taken-lists = took.lists_are (visited_lists at) at.walking
 
-      pushed-encodes : Encodes formula pushed moved_run
-      unfolding with_watches
-      pushed-encodes = encodes_lists there set_there.encodes push.only pushed-lists
+        taken-encodes : Encodes formula taken (with_watches at.run.cells out at.run)
+        taken-encodes = encodes_lists out at.encodes took.only taken-lists
 
-      pushed_length : length pushed ≡ length numbers
-      pushed_length = push.only.same_length ∙ set_there.same_length ∙ took.only.same_length
+        turned : Turned c walk.node position cell (cell_at cells' c)
+        turned =
+            subst (λ (x : ℕ). Turned c x position cell (cell_at cells' c)) (sym (walking_node at.walking))
+            (moved_turned formula (well_sound at) at.run.cells at.run.lists (visited_watched at) q c here position found_at.0 found_at.1)
 
-      pushed-behind : drop (required_length (variables_of book) (clauses_of book)) pushed ≡ drop (required_length (variables_of book) (clauses_of book)) numbers
-      pushed-behind = lists_behind push.only ∙ set_there.same_behind ∙ lists_behind took.only
+        set_there : WatchSet (variables_of book) (clauses_of book) formula taken stored cells' (with_watches at.run.cells out at.run)
+        unfolding with_watches
+        set_there =
+            watch_set cells' inside turned
+            (moved_others formula (well_sound at) at.run.cells at.run.lists (visited_watched at) q c here position found_at.0 found_at.1)
+            (out_same formula (well_sound at) at.run.cells at.run.lists (visited_watched at) q c here position found_at.0 found_at.1)
+            taken-lists taken-encodes stored_is
 
-      goes_on : Walking linked formula cells' there q at.passed at.unread next
-      goes_on =
-          walking_kept cells' there
-          (pushed_elsewhere out l c q
-          (λ e. moved_apart formula (well_sound at) at.run.cells at.run.lists (visited_watched at) q c here position found_at.0 found_at.1 (sym e)))
-          (λ d h. out_same formula (well_sound at) at.run.cells at.run.lists (visited_watched at) q c here position found_at.0 found_at.1 q d h)
-          (took.goes_on (visited_lists at) at.walking)
+        pushed-lists : Lists linked (variables_of book) (clauses_of book) pushed formula cells' there
+        unfolding with_watches
+        pushed-lists =
+            push.lists_are c set_there.lists_are (visited_seen at).two
+            (node_moved formula (well_sound at) at.run.cells at.run.lists (visited_watched at) q c here position found_at.0 found_at.1
+            ∙ sym (walking_node at.walking))
+            (subst (Unlisted formula cells' out) (sym (walking_node at.walking))
+            (out_free formula (well_sound at) at.run.cells at.run.lists (visited_watched at) q c here position found_at.0 found_at.1))
 
-      moved-visited : {after : List ℕ} → after ≡ count_nums pushed (checks_at (variables_of book) (length (formula_of book).clauses) + c) made
-          → Visited book numbers after at (Some next)
-      unfolding perform_action counted with_watches
-      moved-visited {after} after_is =
-          visited_by at after (Some next) (counted c made moved_run) visit-moves
-          (rw after_is (encodes_counted formula pushed moved_run pushed-encodes watched-after (visited_checks at) c made (clause_inside_formula at)))
-          (rw after_is (length-set pushed place filled ∙ pushed_length))
-          (rw after_is
-          (drop-set-lt (required_length (variables_of book) (clauses_of book)) pushed place filled (let i = clause_inside_formula at in omega (arith, clauses_counted book))
-          ∙ pushed-behind))
-          (at.reading.going.quiet, (at.passed, goes_on))
+        pushed-encodes : Encodes formula pushed moved_run
+        unfolding with_watches
+        pushed-encodes = encodes_lists there set_there.encodes push.only pushed-lists
+
+        pushed_length : length pushed ≡ length numbers
+        pushed_length = push.only.same_length ∙ set_there.same_length ∙ took.only.same_length
+
+        pushed-behind : drop (required_length (variables_of book) (clauses_of book)) pushed ≡ drop (required_length (variables_of book) (clauses_of book)) numbers
+        pushed-behind = lists_behind push.only ∙ set_there.same_behind ∙ lists_behind took.only
+
+        goes_on : Walking linked formula cells' there q at.passed at.unread next
+        goes_on =
+            walking_kept cells' there
+            (pushed_elsewhere out l c q
+            (λ e. moved_apart formula (well_sound at) at.run.cells at.run.lists (visited_watched at) q c here position found_at.0 found_at.1 (sym e)))
+            (λ d h. out_same formula (well_sound at) at.run.cells at.run.lists (visited_watched at) q c here position found_at.0 found_at.1 q d h)
+            (took.goes_on (visited_lists at) at.walking)
+
+        moved-visited : {after : List ℕ} → after ≡ count_nums pushed (checks_at (variables_of book) (length (formula_of book).clauses) + c) made
+            → Visited book numbers after at (Some next)
+        unfolding perform_action counted with_watches
+        moved-visited {after} after_is =
+            visited_by at after (Some next) (counted c made moved_run) visit-moves
+            (rw after_is (encodes_counted formula pushed moved_run pushed-encodes watched-after (visited_checks at) c made (clause_inside_formula at)))
+            (rw after_is (length-set pushed place filled ∙ pushed_length))
+            (rw after_is
+            (drop-set-lt (required_length (variables_of book) (clauses_of book)) pushed place filled (let i = clause_inside_formula at in omega (arith, clauses_counted book))
+            ∙ pushed-behind))
+            (at.reading.going.quiet, (at.passed, goes_on))
+          where
+            place : ℕ
+            place = checks_at (variables_of book) (length formula.clauses) + c
+
+            filled : ℕ
+            filled = min (get_or pushed place 0 + made) max_count
+
+      pub visited_moved : {count : ℕ} {literals taken stored pushed after : List ℕ} {next : Walk}
+          → count ≡ checks_at (variables_of book) (clauses_of book) + clause_of_node walk.node → literals ≡ clause_at book d
+          → TakenOut linked (variables_of book) (clauses_of book) numbers taken walk next
+          → stored ≡ watch_nums (variables_of book) (clauses_of book) taken walk.node position
+          → PushedFront linked (variables_of book) (clauses_of book) stored pushed (get_or literals position 0) walk.node
+          → after ≡ count_nums pushed count made → Visited book numbers after at (Some next)
+      visited_moved {count} {literals} {taken} {stored} {pushed} {after} {next} count_is read took stored_is push after_is =
+          moved-visited took stored_is (rw (literals_read at d literals d-is read) at push)
+          (after_is ∙ ap (λ (x : ℕ). count_nums pushed x made) (omega (arith, clause_is at, clauses_counted book)))
+
+    -- no position is found
+    module _ (found_is : r.found ≡ None) where
+      missed : record { found = none; checks = made } ≡ scan trail clause cell
+      missed = scanned None found_is
+
+      unfalse : value ≡ Open → is_false trail other ≡ false
+      unfalse e = (subst (ValueSays trail other) e seeking.says).1
+
+      other-false : (b : Bool) → is_false trail other ≡ b → is_false trail (other_watch clause cell q) ≡ b
+      other-false b e = ap (is_false trail) (sym seeking.other_is) ∙ e
+
+      visit-implies : value ≡ Open → visit formula q c at.run ≡ perform_action formula q c (implies made) at.run
+      unfolding visit action scanned_action
+      visit-implies e = rw (untrue, ← missed, other-false false (unfalse e))
+
+      visit-conflicts : value ≡ False → visit formula q c at.run ≡ perform_action formula q c (conflicts made) at.run
+      unfolding visit action scanned_action
+      visit-conflicts e = rw (untrue, ← missed, other-false true (subst (ValueSays trail other) e seeking.says).1)
+
+      abbrev place-count : ℕ
+      place-count = checks_at (variables_of book) (length (formula_of book).clauses) + c
+
+      abbrev counted_numbers : List ℕ
+      counted_numbers = count_nums numbers place-count made
+
+      abbrev counted_run : Run
+      counted_run = counted c made at.run
+
+      count-place : (count : ℕ) → count ≡ checks_at (variables_of book) (clauses_of book) + clause_of_node walk.node → count ≡ place-count
+      count-place count count_is = omega (arith, clause_is at, clauses_counted book)
+
+      counted-encodes : Encodes formula counted_numbers counted_run
+      counted-encodes =
+          encodes_counted formula numbers at.run at.encodes (visited_watched at) (visited_checks at) c made (clause_inside_formula at)
+
+      counted-length : length counted_numbers ≡ length numbers
+      counted-length = length-set numbers place-count (min (get_or numbers place-count 0 + made) max_count)
+
+      counted-behind : SameBehind book numbers counted_numbers
+      counted-behind =
+          drop-set-lt (required_length (variables_of book) (clauses_of book)) numbers place-count (min (get_or numbers place-count 0 + made) max_count)
+          (let i = clause_inside_formula at in omega (arith, clauses_counted book))
+
+      pub visited_conflict : value ≡ False → {count : ℕ} {now : List ℕ}
+          → count ≡ checks_at (variables_of book) (clauses_of book) + clause_of_node walk.node → now ≡ count_nums numbers count made
+          → Visited book numbers (set now conflict_at (d + 1)) at None
+      unfolding perform_action counted with_conflict
+      visited_conflict e {count} {now} count_is now_is =
+          visited_by at (set now conflict_at (d + 1)) None (with_conflict (suc c) counted_run) (visit-conflicts e)
+          (rw final (encodes_conflict (suc c) (visited_watched at) counted-encodes))
+          (rw final (length-set counted_numbers conflict_at (suc c) ∙ counted-length))
+          (rw final (drop-set-lt (required_length (variables_of book) (clauses_of book)) counted_numbers conflict_at (suc c) (omega arith) ∙ counted-behind))
+          (rw (ne_eqb (suc c) 0 (λ z. omega arith)))
         where
-          place : ℕ
-          place = checks_at (variables_of book) (length formula.clauses) + c
+          next-is : d + 1 ≡ suc c
+          next-is = omega (arith, clause_is at)
 
-          filled : ℕ
-          filled = min (get_or pushed place 0 + made) max_count
+          final : set now conflict_at (d + 1) ≡ set counted_numbers conflict_at (suc c)
+          final = rw (now_is, count-place count count_is, next-is)
 
-    pub visited_moved : (count d : ℕ) (literals : List ℕ) {taken stored pushed after : List ℕ} (next : Walk)
-        → count ≡ checks_at (variables_of book) (clauses_of book) + clause_of_node walk.node → d ≡ clause_of_node walk.node → literals ≡ clause_at book d
-        → TakenOut linked (variables_of book) (clauses_of book) numbers taken walk next
-        → stored ≡ watch_nums (variables_of book) (clauses_of book) taken walk.node position
-        → PushedFront linked (variables_of book) (clauses_of book) stored pushed (get_or literals position 0) walk.node
-        → after ≡ count_nums pushed count made → Visited book numbers after at (Some next)
-    visited_moved count d literals {taken} {stored} {pushed} {after} next count_is d-is read took stored_is push after_is =
-        moved-visited took stored_is (rw (literals_read at d literals d-is read) at push)
-        (after_is ∙ ap (λ (x : ℕ). count_nums pushed x made) (omega (arith, clause_is at, clauses_counted book)))
+      within : literal_within (variables_of book) other ≡ true
+      within = ap (literal_within (variables_of book)) seeking.other_is ∙ other_within at
 
-  -- no position is found
-  module _ (made : ℕ) (missed : record { found = none; checks = made } ≡ scan trail clause cell) where
-    unfalse : value ≡ Open → is_false trail other ≡ false
-    unfalse e = (subst (ValueSays trail other) e seeking.says).1
+      -- an assignment has what it asks
+      pub implied_asks : value ≡ Open → {vars count : ℕ} {now : List ℕ} → vars ≡ variables_of book
+          → count ≡ checks_at (variables_of book) (clauses_of book) + clause_of_node walk.node → now ≡ count_nums numbers count made
+          → (get_or now length_at 0 < vars) × (2 ≤ other) × (variable_of other ≤ vars)
+      unfolding counted
+      implied_asks e {vars} {count} {now} vars-is count_is now_is =
+          let bounds = literal_parts (variables_of book) other within in (
+            rw (now_is, count-place count count_is, counted-encodes.trail.count, vars-is)
+                (trail_room (visited_trailed at) other within seeking.untrue (unfalse e)),
+            bounds.0,
+            let b = bounds.1 in omega arith,
+          )
 
-    other-false : (b : Bool) → is_false trail other ≡ b → is_false trail (other_watch clause cell q) ≡ b
-    other-false b e = ap (is_false trail) (sym seeking.other_is) ∙ e
+      pub visited_implied : value ≡ Open → {vars count : ℕ} {now after : List ℕ} {next : Walk} → vars ≡ variables_of book
+          → count ≡ checks_at (variables_of book) (clauses_of book) + clause_of_node walk.node → now ≡ count_nums numbers count made
+          → after ≡ assign_nums vars now other (get_or now decisions_at 0)
+          → KeptOn linked (variables_of book) (clauses_of book) after walk next
+          → Visited book numbers after at (Some next)
+      unfolding perform_action counted on_trail
+      visited_implied e {vars} {count} {now} {after} {next} vars-is count_is now_is after_is kept =
+          visited_by at after (Some next) implied_run implied encodes
+          (rw final (beside.same_length ∙ counted-length))
+          (rw final (beside_behind beside (required_length (variables_of book) (clauses_of book)) (omega arith) ∙ counted-behind)) (
+            at.reading.going.quiet,
+            (
+              at.passed ++ (c ∷ []),
+              kept.walking
+                  (lists_of {run = implied_run} (variables_of book) (clauses_of book) refl (clauses_counted book) (well_sound at) (visited_watched at) encodes)
+                  at.walking,
+            ),
+          )
+        where
+          implied_run : Run
+          implied_run = on_trail other false counted_run
 
-    visit-implies : value ≡ Open → visit formula q c at.run ≡ perform_action formula q c (implies made) at.run
-    unfolding visit action scanned_action
-    visit-implies e = rw (untrue, ← missed, other-false false (unfalse e))
+          level : ℕ
+          level = get_or counted_numbers decisions_at 0
 
-    visit-conflicts : value ≡ False → visit formula q c at.run ≡ perform_action formula q c (conflicts made) at.run
-    unfolding visit action scanned_action
-    visit-conflicts e = rw (untrue, ← missed, other-false true (subst (ValueSays trail other) e seeking.says).1)
+          counted_now : now ≡ counted_numbers
+          counted_now = now_is ∙ rw (count-place count count_is)
 
-    abbrev place-count : ℕ
-    place-count = checks_at (variables_of book) (length (formula_of book).clauses) + c
+          asks : (get_or now length_at 0 < vars) × (2 ≤ other) × (variable_of other ≤ vars)
+          asks = implied_asks e vars-is count_is now_is
 
-    abbrev counted_numbers : List ℕ
-    counted_numbers = count_nums numbers place-count made
+          beside : SameBeside (variables_of book) counted_numbers (assign_nums (variables_of book) counted_numbers other level)
+          beside = assign_beside (variables_of book) counted_numbers other level (rw (counted_now, vars-is) at asks.0) asks.1 (rw vars-is at asks.2)
 
-    abbrev counted_run : Run
-    counted_run = counted c made at.run
+          final : after ≡ assign_nums (variables_of book) counted_numbers other level
+          final = after_is ∙ rw (vars-is, counted_now)
 
-    count-place : (count : ℕ) → count ≡ checks_at (variables_of book) (clauses_of book) + clause_of_node walk.node → count ≡ place-count
-    count-place count count_is = omega (arith, clause_is at, clauses_counted book)
+          encodes : Encodes formula after implied_run
+          encodes =
+              rw final
+              (encodes_implied formula counted_numbers counted_run counted-encodes (visited_watched at) (visited_trailed at) other level refl within
+              seeking.untrue (unfalse e))
 
-    counted-encodes : Encodes formula counted_numbers counted_run
-    counted-encodes =
-        encodes_counted formula numbers at.run at.encodes (visited_watched at) (visited_checks at) c made (clause_inside_formula at)
-
-    counted-length : length counted_numbers ≡ length numbers
-    counted-length = length-set numbers place-count (min (get_or numbers place-count 0 + made) max_count)
-
-    counted-behind : SameBehind book numbers counted_numbers
-    counted-behind =
-        drop-set-lt (required_length (variables_of book) (clauses_of book)) numbers place-count (min (get_or numbers place-count 0 + made) max_count)
-        (let i = clause_inside_formula at in omega (arith, clauses_counted book))
-
-    pub visited_conflict : value ≡ False → (count d : ℕ) (now : List ℕ)
-        → count ≡ checks_at (variables_of book) (clauses_of book) + clause_of_node walk.node → d ≡ clause_of_node walk.node → now ≡ count_nums numbers count made
-        → Visited book numbers (set now conflict_at (d + 1)) at None
-    unfolding perform_action counted with_conflict
-    visited_conflict e count d now count_is d-is now_is =
-        visited_by at (set now conflict_at (d + 1)) None (with_conflict (suc c) counted_run) (visit-conflicts e)
-        (rw final (encodes_conflict (suc c) (visited_watched at) counted-encodes))
-        (rw final (length-set counted_numbers conflict_at (suc c) ∙ counted-length))
-        (rw final (drop-set-lt (required_length (variables_of book) (clauses_of book)) counted_numbers conflict_at (suc c) (omega arith) ∙ counted-behind))
-        (rw (ne_eqb (suc c) 0 (λ z. omega arith)))
-      where
-        next-is : d + 1 ≡ suc c
-        next-is = omega (arith, clause_is at)
-
-        final : set now conflict_at (d + 1) ≡ set counted_numbers conflict_at (suc c)
-        final = rw (now_is, count-place count count_is, next-is)
-
-    within : literal_within (variables_of book) other ≡ true
-    within = ap (literal_within (variables_of book)) seeking.other_is ∙ other_within at
-
-    -- an assignment has what it asks
-    pub implied_asks : value ≡ Open → (vars count : ℕ) (now : List ℕ) → vars ≡ variables_of book
-        → count ≡ checks_at (variables_of book) (clauses_of book) + clause_of_node walk.node → now ≡ count_nums numbers count made
-        → (get_or now length_at 0 < vars) × (2 ≤ other) × (variable_of other ≤ vars)
-    unfolding counted
-    implied_asks e vars count now vars-is count_is now_is =
-        let bounds = literal_parts (variables_of book) other within in (
-          rw (now_is, count-place count count_is, counted-encodes.trail.count, vars-is)
-              (trail_room (visited_trailed at) other within seeking.untrue (unfalse e)),
-          bounds.0,
-          let b = bounds.1 in omega arith,
-        )
-
-    pub visited_implied : value ≡ Open → (vars count : ℕ) (now after : List ℕ) (next : Walk) → vars ≡ variables_of book
-        → count ≡ checks_at (variables_of book) (clauses_of book) + clause_of_node walk.node → now ≡ count_nums numbers count made
-        → after ≡ assign_nums vars now other (get_or now decisions_at 0)
-        → KeptOn linked (variables_of book) (clauses_of book) after walk next
-        → Visited book numbers after at (Some next)
-    unfolding perform_action counted on_trail
-    visited_implied e vars count now after next vars-is count_is now_is after_is kept =
-        visited_by at after (Some next) implied_run implied encodes
-        (rw final (beside.same_length ∙ counted-length))
-        (rw final (beside_behind beside (required_length (variables_of book) (clauses_of book)) (omega arith) ∙ counted-behind)) (
-          at.reading.going.quiet,
-          (
-            at.passed ++ (c ∷ []),
-            kept.walking
-                (lists_of {run = implied_run} (variables_of book) (clauses_of book) refl (clauses_counted book) (well_sound at) (visited_watched at) encodes)
-                at.walking,
-          ),
-        )
-      where
-        implied_run : Run
-        implied_run = on_trail other false counted_run
-
-        level : ℕ
-        level = get_or counted_numbers decisions_at 0
-
-        counted_now : now ≡ counted_numbers
-        counted_now = now_is ∙ rw (count-place count count_is)
-
-        asks : (get_or now length_at 0 < vars) × (2 ≤ other) × (variable_of other ≤ vars)
-        asks = implied_asks e vars count now vars-is count_is now_is
-
-        beside : SameBeside (variables_of book) counted_numbers (assign_nums (variables_of book) counted_numbers other level)
-        beside = assign_beside (variables_of book) counted_numbers other level (rw (counted_now, vars-is) at asks.0) asks.1 (rw vars-is at asks.2)
-
-        final : after ≡ assign_nums (variables_of book) counted_numbers other level
-        final = after_is ∙ rw (vars-is, counted_now)
-
-        encodes : Encodes formula after implied_run
-        encodes =
-            rw final
-            (encodes_implied formula counted_numbers counted_run counted-encodes (visited_watched at) (visited_trailed at) other level refl within
-            seeking.untrue (unfalse e))
-
-        implied : visit formula q c at.run ≡ implied_run
-        implied = visit-implies e ∙ ap (λ (x : ℕ). on_trail x false counted_run) (sym seeking.other_is)
+          implied : visit formula q c at.run ≡ implied_run
+          implied = visit-implies e ∙ ap (λ (x : ℕ). on_trail x false counted_run) (sym seeking.other_is)

@@ -4,7 +4,7 @@ use Prim.Native.Nat.{ℕ, ◌+◌, ◌*◌, ◌-◌, ◌%◌, ◌≤◌, ◌<◌
 use native.Mathlib.Omega.{arith}
 use mathlib.Core.Bool.{Bool, true, false, cond}
 use mathlib.Core.List.{List, [], ◌∷◌, ◌++◌}
-use mathlib.Core.Path.{◌≡◌, refl, sym, ap, ◌∙◌}
+use mathlib.Core.Path.{◌≡◌, refl, sym, ap, ap₂, ◌∙◌}
 use borrow.Author.Tests.{eqb-true, eqb-false, eq-eqb, ne_eqb}
 use denote.Enum.Bare.{sameb}
 use lib.Dec.{eqb}
@@ -21,7 +21,7 @@ use Rattle.run.specs.Run.{Run, clause_of, size, cell_of, other_watch, action, pe
 use Rattle.run.proofs.Clauses.{clause_exists, literal_within_lem}
 use Rattle.run.specs.Progress.{Watched, Trailed}
 use Rattle.run.proofs.Visits.{Seen, seen}
-use Rattle.layout.specs.Layout.{Fits, values_at, watches_at, node_of, value_slot, clause_of_node, watch_slot}
+use Rattle.layout.specs.Layout.{Fits, TrailFits, values_at, watches_at, node_of, value_slot, clause_of_node, watch_slot}
 use Rattle.layout.proofs.FitsLaws.{held_fits, session_fits}
 use Rattle.layout.specs.Encodes.{TrailHeld, Encodes}
 use Rattle.layout.specs.Values.{value_read}
@@ -127,7 +127,7 @@ module _ {book numbers : List ℕ} {walk : Walk} (at : Visiting book numbers wal
       read ∙ ap (clause_at book) (d-is ∙ clause_is) ∙ sym (clause_of_formula book c (omega (arith, clause_inside_formula, clauses_counted book)))
 
   -- the literal of the other watch, as the code reads it
-  pub other_watch_lem : (d slot : ℕ) (literals : List ℕ) → d ≡ clause_of_node walk.node → literals ≡ clause_at book d
+  other_watch_lem : (d slot : ℕ) (literals : List ℕ) → d ≡ clause_of_node walk.node → literals ≡ clause_at book d
       → slot ≡ watch_slot (variables_of book) (other_node walk.node)
       → (get_or numbers slot 0 < length literals)
       × (get_or literals (get_or numbers slot 0) 0 ≡ other_watch (clause_of (formula_of book) at.clause) (cell_of at.run at.clause) at.q)
@@ -155,7 +155,7 @@ module _ {book numbers : List ℕ} {walk : Walk} (at : Visiting book numbers wal
       rw (← visited_seen.sides.there_literal)
       (literal_within_lem formula well_sound c visited_seen.sides.there visited_seen.sides.there_within)
 
-  pub other_bounded : (l : ℕ) → l ≡ other_watch (clause_of (formula_of book) at.clause) (cell_of at.run at.clause) at.q
+  other_bounded : (l : ℕ) → l ≡ other_watch (clause_of (formula_of book) at.clause) (cell_of at.run at.clause) at.q
       → (2 ≤ l) × (variable_of l ≤ variables_of book)
   other_bounded l e =
       let b = literal_parts (variables_of book) other other_within in
@@ -178,30 +178,46 @@ module _ {book numbers : List ℕ} {walk : Walk} (at : Visiting book numbers wal
   visited_by after r run e encodes long behind says =
       record { encodes = rw e encodes; same_length = long; same_behind = behind; says = rw e says }
 
-  -- the other watch is true: the clause stays
-  pub visited_stays : (vars l : ℕ) (next : Walk) → vars ≡ variables_of book
-      → l ≡ other_watch (clause_of (formula_of book) at.clause) (cell_of at.run at.clause) at.q
-      → (r : Value) → r ≡ value_read (get_or numbers (value_slot vars l) 0) l → sameb the_type r True ≡ true
-      → KeptOn linked (variables_of book) (clauses_of book) numbers walk next → Visited book numbers numbers at (Some next)
-  unfolding visit action perform_action
-  visited_stays vars l next vars-is l-is r r-is told kept =
-      visited_by numbers (Some next) at.run (rw t) at.encodes refl refl
-      (at.reading.going.quiet, (at.passed ++ (c ∷ []), kept.walking visited_lists at.walking))
-    where
-      t : is_true at.run.trail other ≡ true
-      t = ap (is_true at.run.trail) (sym l-is) ∙ sym (says_true at.run.trail l r (other_says vars l r vars-is l-is r-is)) ∙ told
+  -- the other watch, as the code reads it: literal `get_or literals (get_or numbers slot 0) 0`
+  module _ {d node slot vars : ℕ} {literals : List ℕ} (d-is : d ≡ clause_of_node walk.node) (read : literals ≡ clause_at book d)
+      (vars-is : vars ≡ variables_of book) (node-is : node ≡ other_node walk.node) (slot-is : slot ≡ watch_slot vars node) where
+    abbrev watch : ℕ
+    watch = get_or literals (get_or numbers slot 0) 0
 
-  -- it is not: a new watch is sought
-  module _ (vars l : ℕ) (value : Value) (vars-is : vars ≡ variables_of book)
-      (l-is : l ≡ other_watch (clause_of (formula_of book) at.clause) (cell_of at.run at.clause) at.q)
-      (r-is : value ≡ value_read (get_or numbers (value_slot vars l) 0) l) (told : sameb the_type value True ≡ false) where
-    value-says : ValueSays at.run.trail l value
-    value-says = other_says vars l value vars-is l-is r-is
+    reads : (get_or numbers slot 0 < length literals) × (watch ≡ other)
+    reads = other_watch_lem d slot literals d-is read (slot-is ∙ ap₂ watch_slot vars-is node-is)
 
-    pub visited_seeks : Seeking book numbers walk l value
-    visited_seeks = record { at = at; other_is = l-is; untrue = sym (says_true at.run.trail l value value-says) ∙ told; says = value-says }
+    pub watch_within : get_or numbers slot 0 < length literals
+    watch_within = reads.0
 
-    pub visited_sought : (after : List ℕ) (r : Option Walk)
-        → ((seeking : Seeking book numbers walk l value) → Visited book numbers after seeking.at r) → Visited book numbers after at r
-    unfolding visited_seeks
-    visited_sought after r h = h visited_seeks
+    pub watch_valued : TrailFits vars numbers × (2 ≤ get_or literals (get_or numbers slot 0) 0) × (variable_of (get_or literals (get_or numbers slot 0) 0) ≤ vars)
+    watch_valued =
+        let b = other_bounded watch reads.1 in
+        let s = spot in
+        (record { few_variables = omega arith; long = omega arith }, b.0, omega arith)
+
+    module _ {value : Value} (value-is : value ≡ value_read (get_or numbers (value_slot vars (get_or literals (get_or numbers slot 0) 0)) 0) (get_or literals (get_or numbers slot 0) 0)) where
+      says : ValueSays at.run.trail watch value
+      says = other_says vars watch value vars-is reads.1 value-is
+
+      -- it is true: the clause stays
+      pub visited_stays : sameb the_type value True ≡ true → {next : Walk} → KeptOn linked (variables_of book) (clauses_of book) numbers walk next
+          → Visited book numbers numbers at (Some next)
+      unfolding visit action perform_action
+      visited_stays told {next} kept =
+          visited_by numbers (Some next) at.run (rw t) at.encodes refl refl
+          (at.reading.going.quiet, (at.passed ++ (c ∷ []), kept.walking visited_lists at.walking))
+        where
+          t : is_true at.run.trail other ≡ true
+          t = ap (is_true at.run.trail) (sym reads.1) ∙ sym (says_true at.run.trail watch value says) ∙ told
+
+      -- it is not: a new watch is sought
+      module _ (told : sameb the_type value True ≡ false) where
+        pub visited_seeks : Seeking book numbers walk (get_or literals (get_or numbers slot 0) 0) value
+        visited_seeks = record { at = at; other_is = reads.1; untrue = sym (says_true at.run.trail watch value says) ∙ told; says = says }
+
+        pub visited_sought : {after : List ℕ} {r : Option Walk}
+            → ((seeking : Seeking book numbers walk (get_or literals (get_or numbers slot 0) 0) value) → Visited book numbers after seeking.at r)
+            → Visited book numbers after at r
+        unfolding visited_seeks
+        visited_sought h = h visited_seeks

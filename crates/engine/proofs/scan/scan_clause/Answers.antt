@@ -21,9 +21,9 @@ loop-preserved c =
       | then-not-is_watched+else-not-is_false w ↦ inr (
         sym (c.is_watched.ensures _) ∙ w.if-not-is_watched.true,
         λ trail reads. sym (w.is_false.ensures trail reads) ∙ w.if-not-is_false.false,
-        w.made-is,
+        w.checks-is,
       )
-      | else-not-is_watched w ↦ inl (sym (c.is_watched.ensures _) ∙ w.if-not-is_watched.false, w.made-is)
+      | else-not-is_watched w ↦ inl (sym (c.is_watched.ensures _) ∙ w.if-not-is_watched.false, w.checks-is)
     ])
 
 pub returns : goal.returns
