@@ -12,7 +12,7 @@ use Rattle.book.specs.Formula.{Formula, variable_of}
 use Rattle.book.specs.Numbers.{variables_of, clauses_of, formula_of}
 use Rattle.run.specs.Trail.{Entry, opposite, cut}
 use Rattle.run.specs.Run.{Run, on_trail, with_conflict, propagate, decide, backtrack, fix}
-use Rattle.run.specs.Calls.{decide_refusal, backtrack_refusal, max_backtracks}
+use Rattle.run.specs.Calls.{decide_refusal, backtrack_refusal}
 use Rattle.run.proofs.Trails.{untrue_place}
 use Rattle.run.proofs.Levels.{decided_count}
 use Rattle.book.proofs.SoundLaws.{literal_parts}
@@ -218,9 +218,6 @@ module _ {book numbers : List ℕ} (at : Holding book numbers) (l : ℕ) (accept
 
 -- The numbers after an accepted backtrack.
 module _ {book numbers : List ℕ} (at : Holding book numbers) (k : ℕ) (accepted : backtrack_refusal k at.run ≡ 0) where
-  pub few_backtracks : get_or numbers backtracks_at 0 < max_backtracks
-  few_backtracks = omega (arith, at.encodes.backtracks, backtrack_accepted k at.run accepted)
-
   pub backtrack_cutting : (variables : ℕ) → variables ≡ variables_of book → Cutting variables numbers k at.run.trail
   backtrack_cutting variables e =
       rw e

@@ -19,17 +19,14 @@ ghost use Rattle.run.specs.Run as runs;
 use crate::propagation::propagate;
 use crate::trail::{assign, cut_levels};
 use layout::offsets::{BACKTRACKS, CONFLICT, DECISIONS, FIXED, LENGTH, required_length};
-use layout::values::wide;
 
 // Opens a session, whatever its numbers were.
 pub fn open(book: &[u32], session: &mut [u32])
     requires { SessionFits book.now session.old }
     ensures { Becomes book.now session.old session.new (runs.open_run (formula_of book.now)) }
 {
-    opening::clear(
-        session,
-        required_length(book::variables(book), book::clauses(book)),
-    );
+    let needed = required_length(book::variables(book), book::clauses(book));
+    session[..needed].fill(0);
     opening::watch_all(book, session);
     opening::assign_units(book, session);
     propagate(book, session, 0);
@@ -41,7 +38,7 @@ pub fn decide(book: &[u32], session: &mut [u32], literal: u32)
     ensures { (at : Holding book.now session.old) → decide_refusal (formula_of book.now) literal at.run ≡ 0 → Becomes book.now session.old session.new (decide (formula_of book.now) literal at.run) }
 {
     let variables = book::variables(book);
-    let count = wide(session[LENGTH]);
+    let count = session[LENGTH] as usize;
     let level = session[DECISIONS] + 1;
     session[DECISIONS] = level;
     assign(session, variables, literal, level);
@@ -55,7 +52,7 @@ pub fn backtrack(book: &[u32], session: &mut [u32], k: u32)
 {
     cut_levels(session, book::variables(book), k);
     session[CONFLICT] = 0;
-    session[BACKTRACKS] = session[BACKTRACKS] + 1;
+    session[BACKTRACKS] += 1;
 }
 
 // The first f decisions in force are fixed. Nothing else changes.

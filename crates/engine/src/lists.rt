@@ -1,59 +1,56 @@
 // The watch lists of a session: a walk along one, and a clause that leaves or joins one. No other module of the engine knows heads and links.
 ghost use Rattle.std.specs.Prelude.{◌+◌, ◌*◌, ◌≤◌};
+ghost use Rattle.book.specs.Numbers.{variables_of, clauses_of};
 ghost use Rattle.layout.specs.Layout.{Fits};
 ghost use Rattle.engine.specs.Inner.Lists.{Begun, KeptOn, Standing, TakenOut, PushedFront, linked};
 
 use layout::offsets::{head_slot, link_slot};
 
 // Where a walk along a watch list stands: the node that is next, 0 at the end, and the slot that holds it.
-#[derive(Clone, Copy)]
+#[derive(Clone, Copy, Debug, PartialEq, Eq)]
 pub struct Walk {
     pub node: u32,
     pub slot: usize,
 }
 
 // The walk at the start of a literal's list.
-pub(crate) fn first(session: &[u32], variables: usize, clauses: usize, literal: u32) -> Walk
-    requires { Fits variables clauses session.now × (2 ≤ literal) × (literal ≤ 2 * variables + 1) }
-    ensures { Begun linked variables clauses session.now literal result }
+pub(crate) fn first(book: &[u32], session: &[u32], literal: u32) -> Walk
+    requires { Fits (variables_of book.now) (clauses_of book.now) session.now × (2 ≤ literal) × (literal ≤ 2 * variables_of book.now + 1) }
+    ensures { Begun linked (variables_of book.now) (clauses_of book.now) session.now literal result }
 {
-    let slot = head_slot(variables, clauses, literal);
+    let slot = head_slot(book::variables(book), book::clauses(book), literal);
     let node = session[slot];
     Walk { node, slot }
 }
 
 // The clause stays in the list, and the walk goes on behind it.
-pub(crate) fn keep(session: &[u32], variables: usize, clauses: usize, walk: Walk) -> Walk
-    requires { Fits variables clauses session.now × Standing variables clauses walk }
-    ensures { KeptOn linked variables clauses session.now walk result }
+pub(crate) fn keep(book: &[u32], session: &[u32], walk: Walk) -> Walk
+    requires { Fits (variables_of book.now) (clauses_of book.now) session.now × Standing (variables_of book.now) (clauses_of book.now) walk }
+    ensures { KeptOn linked (variables_of book.now) (clauses_of book.now) session.now walk result }
 {
-    let slot = link_slot(variables, clauses, walk.node);
+    let slot = link_slot(book::variables(book), book::clauses(book), walk.node);
     let node = session[slot];
     Walk { node, slot }
 }
 
 // The clause leaves the list, and the walk goes on in its place.
-pub(crate) fn take_out(session: &mut [u32], variables: usize, clauses: usize, walk: Walk) -> Walk
-    requires { Fits variables clauses session.old × Standing variables clauses walk }
-    ensures { TakenOut linked variables clauses session.old session.new walk result }
+pub(crate) fn take_out(book: &[u32], session: &mut [u32], walk: Walk) -> Walk
+    requires { Fits (variables_of book.now) (clauses_of book.now) session.old × Standing (variables_of book.now) (clauses_of book.now) walk }
+    ensures { TakenOut linked (variables_of book.now) (clauses_of book.now) session.old session.new walk result }
 {
     let slot = walk.slot;
-    let node = session[link_slot(variables, clauses, walk.node)];
+    let node = session[link_slot(book::variables(book), book::clauses(book), walk.node)];
     session[slot] = node;
     Walk { node, slot }
 }
 
 // The clause of a node goes to the front of a literal's list.
-pub(crate) fn push_front(
-    session: &mut [u32],
-    variables: usize,
-    clauses: usize,
-    literal: u32,
-    node: u32,
-)
-    requires { Fits variables clauses session.old × (2 ≤ literal) × (literal ≤ 2 * variables + 1) × (1 ≤ node) × (node ≤ 2 * clauses) }
-    ensures { PushedFront linked variables clauses session.old session.new literal node }
+pub(crate) fn push_front(book: &[u32], session: &mut [u32], literal: u32, node: u32)
+    requires { Fits (variables_of book.now) (clauses_of book.now) session.old × (2 ≤ literal) × (literal ≤ 2 * variables_of book.now + 1) × (1 ≤ node) × (node ≤ 2 * clauses_of book.now) }
+    ensures { PushedFront linked (variables_of book.now) (clauses_of book.now) session.old session.new literal node }
 {
+    let variables = book::variables(book);
+    let clauses = book::clauses(book);
     let head = head_slot(variables, clauses, literal);
     let link = link_slot(variables, clauses, node);
     session[link] = session[head];

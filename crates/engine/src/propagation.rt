@@ -5,9 +5,9 @@ ghost use Rattle.engine.specs.Engine.{Becomes};
 ghost use Rattle.run.specs.Run as runs;
 
 use crate::lists;
-use crate::visit::{Visit, visit_clause};
+use crate::visit::visit_clause;
 use layout::offsets::{CONFLICT, LENGTH, TRAIL};
-use layout::values::{opposite, wide};
+use layout::values::opposite;
 
 // Handles the trail literals behind the first `handled` ones, in trail order. A conflict ends it, whatever is unread.
 pub(crate) fn propagate(book: &[u32], session: &mut [u32], handled: usize)
@@ -17,20 +17,15 @@ pub(crate) fn propagate(book: &[u32], session: &mut [u32], handled: usize)
     if session[CONFLICT] != 0 {
         return;
     }
-    let variables = book::variables(book);
-    let clauses = book::clauses(book);
     let mut at = handled;
-    'propagating: while at < wide(session[LENGTH]) {
-        let mut walk = lists::first(session, variables, clauses, opposite(session[TRAIL + at]));
+    'propagating: while at < session[LENGTH] as usize {
+        let literal = session[TRAIL + at];
+        let mut walk = lists::first(book, session, opposite(literal));
         while walk.node != 0 {
-            match visit_clause(book, session, walk) {
-                Visit::GoOn(next) => {
-                    walk = next;
-                }
-                Visit::Conflict => {
-                    break 'propagating;
-                }
-            }
+            let Some(next) = visit_clause(book, session, walk) else {
+                break 'propagating;
+            };
+            walk = next;
         }
         at += 1;
     }

@@ -8,32 +8,28 @@ ghost use Rattle.engine.specs.Inner.Scan.{ScanReady, scanned_in};
 
 use layout::values::{Value, value_of};
 
-// What a scan finds: a position, or nothing; and the checks that it made.
-#[derive(Clone, Copy)]
-pub enum Scan {
-    Found(usize, u32),
-    Nothing(u32),
+// What a scan found: a position to watch, or none; and the checks that it made.
+#[derive(Clone, Copy, Debug, PartialEq, Eq)]
+pub struct Scan {
+    pub found: Option<usize>,
+    pub checks: u32,
 }
 
 // The position behind one, on the circle of the clause's positions.
+#[tactic(auto, unfolding(run::specs::Scan::next))]
 fn next_position(n: usize, position: usize) -> usize
     requires { position < n }
     ensures { result ≡ next n position }
 {
-    if position + 1 < n {
-        return position + 1;
-    }
-    0
+    if position + 1 < n { position + 1 } else { 0 }
 }
 
 // Whether a position is one of the two watches.
+#[tactic(auto, unfolding(run::specs::Scan::watched))]
 fn is_watched(first: usize, second: usize, position: usize) -> bool
     ensures { (pointer : ℕ) → result ≡ watched (record { first = first; second = second; pointer = pointer }) position }
 {
-    if position == first {
-        return true;
-    }
-    position == second
+    position == first || position == second
 }
 
 // Whether a literal is false.
@@ -41,11 +37,7 @@ fn is_false(values: &[u32], literal: u32) -> bool
     requires { (2 ≤ literal) × (variable_of literal ≤ length values.now) }
     ensures { (trail : List Entry) → Reads values.now trail → result ≡ is_false trail literal }
 {
-    match value_of(values, literal) {
-        Value::False => true,
-        Value::True => false,
-        Value::Open => false,
-    }
+    value_of(values, literal) == Value::False
 }
 
 // From the position behind the pointer on, once around: every unwatched position is one check, and the first that is not false ends it.
@@ -60,17 +52,21 @@ pub(crate) fn scan_clause(
     ensures { (trail : List Entry) → Reads values.now trail → scanned_in result ≡ scan trail clause.now (record { first = first; second = second; pointer = pointer }) }
 {
     let mut position = next_position(clause.len(), pointer);
-    let mut made: u32 = 0;
-    let mut left = clause.len();
-    while 0 < left {
+    let mut checks: u32 = 0;
+    for _ in 0..clause.len() {
         if !is_watched(first, second, position) {
-            made += 1;
+            checks += 1;
             if !is_false(values, clause[position]) {
-                return Scan::Found(position, made);
+                return Scan {
+                    found: Some(position),
+                    checks,
+                };
             }
         }
         position = next_position(clause.len(), position);
-        left -= 1;
     }
-    Scan::Nothing(made)
+    Scan {
+        found: None,
+        checks,
+    }
 }

@@ -7,7 +7,7 @@ ghost use Rattle.engine.specs.Inner.Trail.{unassign_nums, Last, Cutting, assign_
 ghost use Rattle.run.specs.Trail as trails;
 
 use layout::offsets::{DECISIONS, LENGTH, TRAIL, levels_at, value_slot};
-use layout::values::{level_before, parity, wide};
+use layout::values::{level_before, parity};
 
 // Puts a literal on the trail, at a level.
 pub(crate) fn assign(session: &mut [u32], variables: usize, literal: u32, level: u32)
@@ -15,7 +15,7 @@ pub(crate) fn assign(session: &mut [u32], variables: usize, literal: u32, level:
     ensures { session.new ≡ assign_nums variables session.old literal level }
 {
     let count = session[LENGTH];
-    let at = wide(count);
+    let at = count as usize;
     session[TRAIL + at] = literal;
     session[levels_at(variables) + at] = level;
     session[value_slot(variables, literal)] = 2 * (count + 1) + parity(literal);
@@ -28,7 +28,7 @@ fn unassign(session: &mut [u32], variables: usize)
     ensures { session.new ≡ unassign_nums variables session.old }
 {
     let last = session[LENGTH] - 1;
-    let at = wide(last);
+    let at = last as usize;
     let literal = session[TRAIL + at];
     session[DECISIONS] = level_before(session, variables, at);
     session[LENGTH] = last;

@@ -142,13 +142,13 @@ module _ (book : List ℕ) (c : ℕ) (well : well_formed book ≡ true) (inside-
       }
 
   -- a clause without watches leaves all as it is
-  pub first_none : {numbers : List ℕ} → length (clause_at book c) < 2 → WatchedFirst book numbers numbers c
+  pub first_none : {numbers literals : List ℕ} → literals ≡ clause_at book c → length literals < 2 → WatchedFirst book numbers numbers c
   unfolding with_watches
-  first_none {numbers} few =
+  first_none {numbers} read few =
       record { same_length = refl; same_behind = refl; holds = λ k. subst (FirstWatches book numbers) (sym (add-one c)) (holds k) }
     where
       small : size formula c < 2
-      small = rw (clause_of_formula book c inside-book) few
+      small = rw (clause_of_formula book c inside-book ∙ sym read) few
 
       same : (d : ℕ) → cell_at after_cells d ≡ cell_at before_cells d
       same d =
@@ -285,15 +285,13 @@ module _ (book : List ℕ) (c : ℕ) (well : well_formed book ≡ true) (inside-
           holds = λ k. subst (FirstWatches book twice) (sym (add-one c)) (first_next k);
         }
 
-  pub first_some : (vars many l m : ℕ) (numbers : List ℕ) {stored once twice : List ℕ} → vars ≡ variables_of book → many ≡ clauses_of book
-      → l ≡ get_or (clause_at book c) 0 0 → m ≡ get_or (clause_at book c) 1 0 → 2 ≤ length (clause_at book c)
-      → stored ≡ watch_nums vars many numbers (2 * c + 2) 1 → PushedFront linked vars many stored once l (2 * c + 1)
-      → PushedFront linked vars many once twice m (2 * c + 2) → WatchedFirst book numbers twice c
-  first_some vars many l m numbers vars-is many_is l-is m-is two stored_is first-push second-push =
-      let is = clause_of_formula book c inside-book in
-      first-stored (rw is two) numbers (rw (vars-is, many_is) at stored_is)
-      (rw (vars-is, many_is, l-is ∙ ap (λ (x : List ℕ). get_or x 0 0) (sym is)) at first-push)
-      (rw (vars-is, many_is, m-is ∙ ap (λ (x : List ℕ). get_or x 1 0) (sym is)) at second-push)
+  pub first_some : (literals numbers : List ℕ) {stored once twice : List ℕ} → literals ≡ clause_at book c → 2 ≤ length literals
+      → stored ≡ watch_nums (variables_of book) (clauses_of book) numbers (2 * c + 2) 1
+      → PushedFront linked (variables_of book) (clauses_of book) stored once (get_or literals 0 0) (2 * c + 1)
+      → PushedFront linked (variables_of book) (clauses_of book) once twice (get_or literals 1 0) (2 * c + 2) → WatchedFirst book numbers twice c
+  first_some literals numbers read two stored_is first-push second-push =
+      let is = read ∙ sym (clause_of_formula book c inside-book) in
+      first-stored (rw is at two) numbers stored_is (rw is at first-push) (rw is at second-push)
 
 -- all clauses have them
 pub watches_end : {book before numbers : List ℕ} (c : ℕ) → clauses_of book ≤ c → length numbers ≡ length before → SameBehind book before numbers

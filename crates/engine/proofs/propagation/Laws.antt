@@ -1,4 +1,5 @@
 -- Propagation over the session's numbers: the next literal's list is read clause by clause, as the run reads it.
+use Rattle.std.specs.Prelude.{Option, Some, None}
 use Prim.Native.Nat.{ℕ, suc, ◌+◌, ◌*◌, ◌≤◌, ◌<◌}
 use native.Mathlib.Numerals.{add-one}
 use native.Mathlib.Omega.{arith}
@@ -9,21 +10,21 @@ use mathlib.Core.Path.{◌≡◌, refl, sym, ap, ◌∙◌, subst}
 use borrow.Author.Tests.{ne_eqb, lt-ltb}
 use lib.ListN.{length, get_or}
 use Rattle.base.proofs.Bools.{never}
-use Rattle.book.specs.Formula.{Formula, sound}
+use Rattle.book.specs.Formula.{max_variables, Formula, sound}
 use Rattle.book.specs.Numbers.{variables_of, clauses_of, formula_of, well_formed}
 use Rattle.book.proofs.PartLaws.{clauses_counted}
 use Rattle.book.proofs.SoundLaws.{literal_parts}
-use Rattle.book.proofs.WellFormedLaws.{well_formed_sound}
+use Rattle.book.proofs.WellFormedLaws.{well_formed_limited, well_formed_sound}
 use Rattle.run.specs.Trail.{opposite, place, literal_at}
 use Rattle.run.specs.Run.{Run, list_of, visit, in_conflict, read_list, propagate_from, propagate}
 use Rattle.run.proofs.Trails.{place_true, place_of_literal}
 use Rattle.run.proofs.Opposites.{opposite_cases}
 use Rattle.run.proofs.Inductions.{next_read, read_next, propagate_stops, propagate_done}
 use Rattle.run.proofs.Conflicts.{quiet_out}
-use Rattle.run.specs.Progress.{Going, Ended, ReadingList}
+use Rattle.run.specs.Progress.{Going, ReadingList}
 use Rattle.run.proofs.Visits.{visit_outcome}
 use Rattle.run.proofs.Validity.{reading_begins, reading_ends, trail_short, fuel_enough}
-use Rattle.layout.specs.Layout.{Fits, length_at, conflict_at, trail_at}
+use Rattle.layout.specs.Layout.{Fits, required_length, length_at, conflict_at, trail_at}
 use Rattle.layout.proofs.FitsLaws.{held_fits, session_fits}
 use Rattle.layout.specs.Encodes.{Encodes}
 use Rattle.engine.specs.Engine.{Becomes}
@@ -31,8 +32,6 @@ use Rattle.engine.specs.Inner.Lists.{Lists, Walking, Begun, left_of, linked}
 use Rattle.engine.specs.Inner.Visit.{Visiting, VisitSays, Visited}
 use Rattle.engine.specs.Inner.Propagation.{Propagating}
 use Rattle.engine.specs.declared.lists.Walk.{Walk}
-use Rattle.engine.specs.declared.visit.Visit.{Visit}
-use Rattle.engine.specs.declared.visit.Visit.TheVariants as v
 use Rattle.engine.proofs.lists.FrameLaws.{lists_of}
 use Rattle.engine.proofs.lists.WalkLaws.{walking_left, walking_more, walking_none}
 
@@ -73,6 +72,14 @@ pub record Next (book numbers : List ℕ) (i : ℕ) : Type 0 where
   pub going : Going (formula_of book) i run
   pub more : i < length run.trail
 
+-- what follows for its place and for the literal there
+pub record NextBounds (book numbers : List ℕ) (i : ℕ) : Type 0 where
+  pub below : i < variables_of book
+  pub few : variables_of book ≤ max_variables
+  pub long : required_length (variables_of book) (clauses_of book) ≤ length numbers
+  pub low : 2 ≤ get_or numbers (trail_at + i) 0
+  pub high : get_or numbers (trail_at + i) 0 ≤ 2 * variables_of book + 1
+
 -- The list of the next literal's opposite is read: a walk along it has `unread` left.
 pub record ReadingOn (book before numbers : List ℕ) (i : ℕ) (walk : Walk) (first : Run) (unread : List ℕ) : Type 0 where
   pub run : Run
@@ -100,14 +107,6 @@ module _ (book : List ℕ) where
   formula = formula_of book
 
   -- it begins, or a conflict is there already
-  pub propagating_begins : {numbers : List ℕ} {handled : ℕ} → get_or numbers conflict_at 0 ≡ 0 → (at : Propagating book numbers handled)
-      → Propagation book numbers numbers handled handled at.run
-  propagating_begins {numbers} {handled} z at =
-      record { run = at.run; becomes = becomes_self at.encodes; going = ⊎_elim (λ g. g) loud at.state; rest = refl }
-    where
-      loud : Ended formula at.run → Going formula handled at.run
-      loud e = absurd (never e.loud (quiet_out at.run (sym at.encodes.conflict ∙ z)))
-
   pub propagating_stands : {numbers : List ℕ} {handled : ℕ} → (get_or numbers conflict_at 0 ≡ 0 → ⊥) → (at : Propagating book numbers handled)
       → Becomes book numbers numbers (propagate formula handled at.run)
   propagating_stands {numbers} {handled} n at =
@@ -128,10 +127,10 @@ module _ (book : List ℕ) where
       record { well = w; run = s.run; encodes = s.becomes.encodes; going = s.going; more = omega (arith, s.becomes.encodes.trail.count) }
 
   -- what the next literal is, and where it stands
-  pub next_below : {numbers : List ℕ} {i : ℕ} → Next book numbers i → i < variables_of book
+  next_below : {numbers : List ℕ} {i : ℕ} → Next book numbers i → i < variables_of book
   next_below n = omega (arith, n.more, trail_short n.going.structure.trailed)
 
-  pub next_literal : {numbers : List ℕ} {i : ℕ} (n : Next book numbers i)
+  next_literal : {numbers : List ℕ} {i : ℕ} (n : Next book numbers i)
       → (get_or numbers (trail_at + i) 0 ≡ literal_at n.run.trail (suc i)) × (2 ≤ get_or numbers (trail_at + i) 0)
       × (get_or numbers (trail_at + i) 0 ≤ 2 * variables_of book + 1)
   next_literal {numbers} {i} n =
@@ -142,8 +141,19 @@ module _ (book : List ℕ) where
       (n.going.structure.trailed.within (literal_at n.run.trail (suc i)) (place_true n.run.trail (literal_at n.run.trail (suc i)) (omega arith))) in
       (here, omega arith, omega arith)
 
-  pub next_fits : {numbers : List ℕ} {i : ℕ} (vars many : ℕ) → vars ≡ variables_of book → many ≡ clauses_of book → Next book numbers i → Fits vars many numbers
-  next_fits vars many vars-is many_is n = session_fits vars many vars-is many_is (held_fits n.well n.encodes)
+  pub next_bounds : {numbers : List ℕ} {i : ℕ} → Next book numbers i → NextBounds book numbers i
+  next_bounds n =
+      let literal = next_literal n in
+      record {
+        below = next_below n;
+        few = (well_formed_limited book n.well).variables;
+        long = (held_fits n.well n.encodes).long;
+        low = literal.1;
+        high = literal.2;
+      }
+
+  pub next_fits : {numbers : List ℕ} {i : ℕ} → Next book numbers i → Fits (variables_of book) (clauses_of book) numbers
+  next_fits n = session_fits (variables_of book) (clauses_of book) refl refl (held_fits n.well n.encodes)
 
   pub next_opposite : {numbers : List ℕ} {i : ℕ} (q : ℕ) → Next book numbers i → q ≡ opposite (get_or numbers (trail_at + i) 0)
       → (2 ≤ q) × (q ≤ 2 * variables_of book + 1)
@@ -151,16 +161,17 @@ module _ (book : List ℕ) where
       let literal = next_literal n in
       ⊎_elim (λ o. (omega arith, omega arith)) (λ o. (omega arith, omega arith)) (opposite_cases (get_or numbers (trail_at + i) 0))
 
-  lists_at_lem : {handled q : ℕ} {unread numbers : List ℕ} {run : Run} (vars many : ℕ) → vars ≡ variables_of book → many ≡ clauses_of book → well_formed book ≡ true
-      → Encodes formula numbers run → ReadingList formula handled q unread run → Lists linked vars many numbers formula run.cells run.lists
-  lists_at_lem vars many vars-is many_is w e r =
-      lists_of vars many (sym vars-is) (clauses_counted book ∙ sym many_is) (well_formed_sound book w) r.going.structure.watched e
+  lists_at_lem : {handled q : ℕ} {unread numbers : List ℕ} {run : Run} → well_formed book ≡ true
+      → Encodes formula numbers run → ReadingList formula handled q unread run
+      → Lists linked (variables_of book) (clauses_of book) numbers formula run.cells run.lists
+  lists_at_lem w e r =
+      lists_of (variables_of book) (clauses_of book) refl (clauses_counted book) (well_formed_sound book w) r.going.structure.watched e
 
   -- its list begins to be read
-  pub reading_on_begins : {numbers : List ℕ} {i : ℕ} (vars many q : ℕ) (walk : Walk) → vars ≡ variables_of book → many ≡ clauses_of book
-      → q ≡ opposite (get_or numbers (trail_at + i) 0) → Begun linked vars many numbers q walk → (n : Next book numbers i)
+  pub reading_on_begins : {numbers : List ℕ} {i : ℕ} (q : ℕ) (walk : Walk) → q ≡ opposite (get_or numbers (trail_at + i) 0)
+      → Begun linked (variables_of book) (clauses_of book) numbers q walk → (n : Next book numbers i)
       → (unread : List ℕ) × ReadingOn book numbers numbers i walk n.run unread
-  reading_on_begins {numbers} {i} vars many q walk vars-is many_is q-is begun n = (list_of n.run.lists q, go (q-is ∙ ap opposite (next_literal n).0))
+  reading_on_begins {numbers} {i} q walk q-is begun n = (list_of n.run.lists q, go (q-is ∙ ap opposite (next_literal n).0))
     where
       go : q ≡ next_read i n.run → ReadingOn book numbers numbers i walk n.run (list_of n.run.lists q)
       go e =
@@ -171,16 +182,16 @@ module _ (book : List ℕ) where
             passed = [];
             becomes = becomes_self n.encodes;
             reading = reading;
-            walking = begun.walking (lists_at_lem vars many vars-is many_is n.well n.encodes reading);
+            walking = begun.walking (lists_at_lem n.well n.encodes reading);
             rest = rw e;
           }
 
   module _ {before numbers : List ℕ} {i : ℕ} {walk : Walk} {first : Run} where
     -- how many clauses are left
-    pub reading_on_left : (unread : List ℕ) (vars many : ℕ) → well_formed book ≡ true → vars ≡ variables_of book → many ≡ clauses_of book
-        → ReadingOn book before numbers i walk first unread → left_of vars many numbers walk ≡ length unread
-    reading_on_left unread vars many w vars-is many_is p =
-        walking_left (lists_at_lem vars many vars-is many_is w p.becomes.encodes p.reading) unread p.walking
+    reading_on_left : (unread : List ℕ) → well_formed book ≡ true → ReadingOn book before numbers i walk first unread
+        → left_of (variables_of book) (clauses_of book) numbers walk ≡ length unread
+    reading_on_left unread w p =
+        walking_left (lists_at_lem w p.becomes.encodes p.reading) unread p.walking
 
     -- a walk that is not at the end stands at a clause
     pub reading_on_more : (unread : List ℕ) × ReadingOn book before numbers i walk first unread → (walk.node ≡ 0 → ⊥)
@@ -211,14 +222,14 @@ module _ (book : List ℕ) where
           walking = p.walking;
         }
 
-    module _ {after : List ℕ} (r : Visit) (d : Visited book numbers after visiting r) where
+    module _ {after : List ℕ} (r : Option Walk) (d : Visited book numbers after visiting r) where
       abbrev later-run : Run
       later-run = visit formula p.q c p.run
 
       later : Becomes book before after later-run
       later = becomes_then p.becomes (record { encodes = d.encodes; same_length = d.same_length; same_behind = d.same_behind })
 
-      says : (x : Visit) → r ≡ x → VisitSays formula p.q unread later-run x
+      says : (x : Option Walk) → r ≡ x → VisitSays formula p.q unread later-run x
       says x e = subst (VisitSays formula p.q unread later-run) e d.says
 
       goes_on : later-run.conflict ≡ 0 → ReadingList formula i p.q unread later-run
@@ -226,9 +237,9 @@ module _ (book : List ℕ) where
           ⊎_elim (λ k. k) (λ k. absurd (never k.loud (quiet_out later-run z)))
           (visit_outcome formula (well_formed_sound book w) i p.q c unread p.run p.reading)
 
-      pub reading_on_next : (next : Walk) → r ≡ v.GoOn next → ReadingOn book before after i next first unread
+      reading_on_next : (next : Walk) → r ≡ Some next → ReadingOn book before after i next first unread
       reading_on_next next e =
-          let said = says (v.GoOn next) e in
+          let said = says (Some next) e in
           record {
             run = later-run;
             q = p.q;
@@ -240,10 +251,39 @@ module _ (book : List ℕ) where
           }
 
       -- a conflict ends propagation, whatever is unread
-      pub reading_on_conflict : r ≡ v.Conflict
+      reading_on_conflict : r ≡ None
           → Becomes book before after (read_next formula i first) × (in_conflict (read_next formula i first) ≡ true)
       reading_on_conflict e =
-          rw (sym p.rest, read_stops formula p.q c unread p.run (says v.Conflict e)) (later, says v.Conflict e)
+          rw (sym p.rest, read_stops formula p.q c unread p.run (says None e)) (later, says None e)
+
+  -- a walk that is not at the end: its clause is visited
+  module _ {before numbers : List ℕ} {i : ℕ} {walk : Walk} {first : Run} (w : well_formed book ≡ true)
+      (reads : (unread : List ℕ) × ReadingOn book before numbers i walk first unread) (more : walk.node ≡ 0 → ⊥) where
+    abbrev at_clause : (c : ℕ) × (unread : List ℕ) × ReadingOn book before numbers i walk first (c ∷ unread)
+    at_clause = reading_on_more reads more
+
+    pub visiting_clause : Visiting book numbers walk
+    visiting_clause = visiting at_clause.0 at_clause.1 w at_clause.2
+
+    module _ {after : List ℕ} (r : Option Walk) (visited : (at : Visiting book numbers walk) → Visited book numbers after at r) where
+      on : (next : Walk) → r ≡ Some next → ReadingOn book before after i next first at_clause.1
+      unfolding visiting_clause
+      on = reading_on_next at_clause.0 at_clause.1 w at_clause.2 r (visited visiting_clause)
+
+      pub visited_on : (next : Walk) → r ≡ Some next → (unread : List ℕ) × ReadingOn book before after i next first unread
+      visited_on next e = (at_clause.1, on next e)
+
+      -- the walk that goes on has fewer clauses left
+      pub visited_fewer : (next : Walk) → r ≡ Some next
+          → left_of (variables_of book) (clauses_of book) after next < left_of (variables_of book) (clauses_of book) numbers walk
+      visited_fewer next e =
+          let now = reading_on_left (at_clause.0 ∷ at_clause.1) w at_clause.2 in
+          let later = reading_on_left at_clause.1 w (on next e) in
+          omega arith
+
+      pub visited_ends : r ≡ None → Becomes book before after (read_next formula i first) × (in_conflict (read_next formula i first) ≡ true)
+      unfolding visiting_clause
+      visited_ends e = reading_on_conflict at_clause.0 at_clause.1 w at_clause.2 r (visited visiting_clause) e
 
   -- the list is read to its end
   pub propagating_again : {before middle numbers : List ℕ} {handled i : ℕ} {walk : Walk} {first : Run} → well_formed book ≡ true
@@ -265,9 +305,9 @@ module _ (book : List ℕ) where
   -- its reading ended in a conflict
   pub propagating_conflict : {before middle numbers : List ℕ} {handled i : ℕ} {first : Run} → well_formed book ≡ true
       → (s : Propagation book before middle handled i first) → i < get_or middle length_at 0
-      → Becomes book middle numbers (read_next formula i s.run) → in_conflict (read_next formula i s.run) ≡ true
+      → Becomes book middle numbers (read_next formula i s.run) × (in_conflict (read_next formula i s.run) ≡ true)
       → Becomes book before numbers (propagate formula handled first)
-  propagating_conflict {handled = handled} {i = i} {first = first} w s more b loud =
+  propagating_conflict {handled = handled} {i = i} {first = first} w s more (b, loud) =
       rw (
         sym s.rest,
         propagate_next formula (well_formed_sound book w) i s.run s.going (omega (arith, s.becomes.encodes.trail.count)),

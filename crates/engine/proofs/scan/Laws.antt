@@ -7,16 +7,18 @@ use mathlib.Core.Logic.{◌⊎◌, inl, inr, ⊎_elim}
 use mathlib.Core.Option.{none, some}
 use mathlib.Core.Path.{◌≡◌, refl, sym, ap, ◌∙◌}
 use borrow.Author.Tests.{eqb-true, ne_eqb}
+use denote.Enum.Bare.{sameb}
 use lib.Dec.{eqb}
 use lib.ListN.{length, get_or}
 use Rattle.book.specs.Formula.{variable_of}
-use Rattle.run.specs.Trail.{Entry, opposite, is_false}
+use Rattle.run.specs.Trail.{Entry, opposite, is_true, is_false}
 use Rattle.run.specs.Scan.{Cell, Scanned, next, watched, one_more, scan_from, scan}
 use Rattle.run.proofs.Opposites.{opposite_cases, opposite_variable}
 use Rattle.run.proofs.Circle.{next_within}
 use Rattle.layout.specs.Values.{value_read, value_in, Reads}
 use Rattle.layout.proofs.ValueLaws.{value_true, value_false, value_open}
 use Rattle.engine.specs.Inner.Scan.{ScanReady, ValueSays}
+use Rattle.layout.specs.contracts.values.Value.{the_type}
 use Rattle.layout.specs.declared.values.Value.{Value}
 use Rattle.layout.specs.declared.values.Value.TheVariants.{Open, True, False}
 
@@ -58,6 +60,17 @@ reads_says values trail l reads low within True e = (value_true trail l (sym (e 
     there =
         sym (reads (opposite l) opposite-low opposite_within)
         ∙ rw (opposite_variable l) (read_opposite (get_or values (variable_of l - 1) 0) l (opposite l) other (sym e))
+
+-- the test of a value against False, and against True
+pub says_false : (trail : List Entry) (l : ℕ) (value : Value) → ValueSays trail l value → sameb the_type value False ≡ is_false trail l
+says_false trail l Open says = sym says.1
+says_false trail l True says = sym says.1
+says_false trail l False says = sym says.1
+
+pub says_true : (trail : List Entry) (l : ℕ) (value : Value) → ValueSays trail l value → sameb the_type value True ≡ is_true trail l
+says_true trail l Open says = sym says.0
+says_true trail l True says = sym says.0
+says_true trail l False says = sym says.0
 
 -- the checks made before a scan goes on
 pub plus : ℕ → Scanned → Scanned

@@ -181,19 +181,6 @@ pub record Shortening (v : ℕ) (numbers : List ℕ) (target : ℕ) (goal : List
   pub low : target ≤ length (decisions rest)
   pub same : cut (length (decisions rest) - target) rest ≡ goal
 
-pub shortening_start : {v : ℕ} {numbers : List ℕ} {k : ℕ} {trail : List Entry} → Cutting v numbers k trail
-    → Shortening v numbers (get_or numbers decisions_at 0 - k) (cut k trail)
-shortening_start {v} {numbers} {k} {trail} c =
-    let count : get_or numbers decisions_at 0 ≡ length (decisions trail) = c.is_held.decided in
-    let enough : k ≤ length (decisions trail) = c.enough in
-    let left_over : length (decisions trail) - (get_or numbers decisions_at 0 - k) ≡ k = omega arith in
-    record {
-      rest = trail;
-      cutting = rw left_over c;
-      low = omega arith;
-      same = rw left_over;
-    }
-
 cut_none : (trail : List Entry) → cut zero trail ≡ trail
 unfolding cut
 cut_none trail = refl

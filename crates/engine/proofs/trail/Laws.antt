@@ -4,7 +4,7 @@ use native.Mathlib.Omega.{arith}
 use mathlib.Core.Bool.{true, false}
 use mathlib.Core.List.{List, ◌∷◌}
 use mathlib.Core.Logic.{◌⊎◌, inl, inr, ⊎_elim}
-use mathlib.Core.Path.{◌≡◌, refl, sym, ap, ◌∙◌}
+use mathlib.Core.Path.{◌≡◌, sym, ap, ◌∙◌}
 use lib.ListN.{length, get_or, set, length-set}
 use lib.Seq.{get_or-set_same, get_or-set_other}
 use Rattle.base.proofs.Bools.{alike, never}
@@ -75,10 +75,7 @@ assign_beside v numbers l level room low within =
       parts = λ i h. assign_other v numbers l level i (λ q. omega arith) (λ q. omega arith) (λ q. omega arith) (λ q. omega arith);
     }
 
--- nor where the number of decisions is stored
-pub beside_same : (v : ℕ) (numbers : List ℕ) → SameBeside v numbers numbers
-beside_same v numbers = record { same_length = refl; header = λ i low high. refl; parts = λ i h. refl }
-
+-- two changes, one after the other
 pub beside_compose : {v : ℕ} {a b c : List ℕ} → SameBeside v a b → SameBeside v b c → SameBeside v a c
 beside_compose p q =
     record {
@@ -91,6 +88,7 @@ beside_compose p q =
 pub fits_still : {v : ℕ} {a b : List ℕ} → TrailFits v a → SameBeside v a b → TrailFits v b
 fits_still fits same = record { few_variables = fits.few_variables; long = omega (arith, fits.long, same.same_length) }
 
+-- nor where the number of decisions is stored
 pub decisions_beside : (v : ℕ) (numbers : List ℕ) (n : ℕ) → SameBeside v numbers (set numbers decisions_at n)
 decisions_beside v numbers n =
     record {

@@ -1,61 +1,43 @@
 -- What the code of a visit reads of the clause at which a walk stands: its node, its other watch and the value of that.
-use Prim.Native.Nat.{ℕ, suc, ◌+◌, ◌*◌, ◌-◌, ◌%◌, ◌≤◌, ◌<◌}
+use Rattle.std.specs.Prelude.{Option, Some}
+use Prim.Native.Nat.{ℕ, ◌+◌, ◌*◌, ◌-◌, ◌%◌, ◌≤◌, ◌<◌}
 use native.Mathlib.Omega.{arith}
-use native.Mathlib.Numerals.{add-one}
 use mathlib.Core.Bool.{Bool, true, false, cond}
 use mathlib.Core.List.{List, [], ◌∷◌, ◌++◌}
-use mathlib.Core.Path.{◌≡◌, refl, sym, ap, ◌∙◌}
+use mathlib.Core.Path.{◌≡◌, refl, sym, ap, ap₂, ◌∙◌}
 use borrow.Author.Tests.{eqb-true, eqb-false, eq-eqb, ne_eqb}
+use denote.Enum.Bare.{sameb}
 use lib.Dec.{eqb}
 use lib.ListN.{length, get_or, take, drop, length-take, length-drop}
 use lib.Seq.{get_or-take, get_or-drop}
 use Rattle.book.specs.Formula.{Formula, variable_of, literal_within, sound}
-use Rattle.book.specs.Numbers.{variables_of, clauses_of, start_of, clause_start, clause_at, formula_of, well_formed}
-use Rattle.book.proofs.PartLaws.{clause_inside, clause_of_formula, clauses_counted, length_clause}
+use Rattle.book.specs.Numbers.{variables_of, clauses_of, clause_at, formula_of}
+use Rattle.book.proofs.PartLaws.{clause_of_formula, clauses_counted}
 use Rattle.book.proofs.SoundLaws.{literal_parts}
-use Rattle.book.proofs.WellFormedLaws.{well_formed_parted, well_formed_sound}
+use Rattle.book.proofs.WellFormedLaws.{well_formed_sound}
 use Rattle.base.specs.Lists.{distinct}
 use Rattle.run.specs.Trail.{Entry, variables_on, is_true}
 use Rattle.run.specs.Run.{Run, clause_of, size, cell_of, other_watch, action, perform_action, visit}
 use Rattle.run.proofs.Clauses.{clause_exists, literal_within_lem}
 use Rattle.run.specs.Progress.{Watched, Trailed}
 use Rattle.run.proofs.Visits.{Seen, seen}
-use Rattle.layout.specs.Layout.{Fits, values_at, watches_at, node_of, value_slot, clause_of_node, watch_slot}
+use Rattle.layout.specs.Layout.{Fits, TrailFits, values_at, watches_at, node_of, value_slot, clause_of_node, watch_slot}
 use Rattle.layout.proofs.FitsLaws.{held_fits, session_fits}
 use Rattle.layout.specs.Encodes.{TrailHeld, Encodes}
 use Rattle.layout.specs.Values.{value_read}
+use Rattle.layout.specs.contracts.values.Value.{the_type}
 use Rattle.layout.specs.declared.values.Value.{Value}
-use Rattle.layout.specs.declared.values.Value.TheVariants.{Open, True, False}
+use Rattle.layout.specs.declared.values.Value.TheVariants.{True}
 use Rattle.layout.proofs.ChainLaws.{node_between}
 use Rattle.layout.proofs.ValueLaws.{held_reads}
 use Rattle.engine.specs.Engine.{SameBehind}
 use Rattle.engine.specs.Inner.Lists.{Lists, Standing, KeptOn, linked}
-use Rattle.engine.specs.Inner.Visit.{Visiting, VisitSays, Visited, other_node, tells_true, Seeking}
+use Rattle.engine.specs.Inner.Visit.{Visiting, VisitSays, Visited, other_node, Seeking}
 use Rattle.engine.specs.declared.lists.Walk.{Walk}
-use Rattle.engine.specs.declared.visit.Visit.{Visit}
-use Rattle.engine.specs.declared.visit.Visit.TheVariants as v
 use Rattle.engine.proofs.lists.FrameLaws.{lists_of}
 use Rattle.engine.proofs.lists.WalkLaws.{walking_node, walking_stands}
 use Rattle.engine.specs.Inner.Scan.{ValueSays}
-use Rattle.engine.proofs.scan.Laws.{reads_says}
-
--- the clause of a node
--- the literals of a clause, where they stand in the book
-pub spot_literal : (book : List ℕ) → well_formed book ≡ true → (c p start : ℕ) → c < clauses_of book → p < size (formula_of book) c
-    → start ≡ clause_start book c
-    → (start + p < length book) × (get_or book (start + p) 0 ≡ get_or (clause_of (formula_of book) c) p 0)
-spot_literal book well c p start inside h begin =
-    let parted = well_formed_parted book well in
-    let is : clause_of (formula_of book) c ≡ clause_at book c = clause_of_formula book c inside in
-    let ends = clause_inside book parted c start (clause_start book (c + 1)) inside begin refl in
-    let short : p < start_of book (suc c) - start_of book c = rw (is, length_clause book parted c inside) at h in
-    let next : start_of book (c + 1) ≡ start_of book (suc c) = ap (start_of book) (add-one c) in (
-      omega arith,
-      rw is
-          (sym (get_or-take (start_of book (suc c) - start_of book c) (drop (clause_start book c) book) p 0 short
-          ∙ get_or-drop (clause_start book c) book p 0
-          ∙ ap (λ (x : ℕ). get_or book (x + p) 0) (sym begin))),
-    )
+use Rattle.engine.proofs.scan.Laws.{reads_says, says_true}
 
 -- the other node
 other_odd : (c node : ℕ) → node ≡ 2 * c + 1 → other_node node - 1 ≡ 2 * c + 1
@@ -138,43 +120,34 @@ module _ {book numbers : List ℕ} {walk : Walk} (at : Visiting book numbers wal
         other_high = others.1;
       }
 
-  pub spot_fits : (vars many : ℕ) → vars ≡ variables_of book → many ≡ clauses_of book → Fits vars many numbers
-  spot_fits vars many vars-is many_is = rw (vars-is, many_is) spot.fits
-
-  pub spot_standing : (vars many : ℕ) → vars ≡ variables_of book → many ≡ clauses_of book → Standing vars many walk
-  spot_standing vars many vars-is many_is = rw (vars-is, many_is) spot.standing
+  -- the literals of the clause, as the code reads them
+  pub literals_read : (d : ℕ) (literals : List ℕ) → d ≡ clause_of_node walk.node → literals ≡ clause_at book d
+      → literals ≡ clause_of (formula_of book) at.clause
+  literals_read d literals d-is read =
+      read ∙ ap (clause_at book) (d-is ∙ clause_is) ∙ sym (clause_of_formula book c (omega (arith, clause_inside_formula, clauses_counted book)))
 
   -- the literal of the other watch, as the code reads it
-  pub other_watch_lem : (start watch : ℕ) → start ≡ clause_start book (clause_of_node walk.node)
-      → watch ≡ get_or numbers (watch_slot (variables_of book) (other_node walk.node)) 0
-      → (start + watch < length book)
-      × (get_or book (start + watch) 0 ≡ other_watch (clause_of (formula_of book) at.clause) (cell_of at.run at.clause) at.q)
+  other_watch_lem : (d slot : ℕ) (literals : List ℕ) → d ≡ clause_of_node walk.node → literals ≡ clause_at book d
+      → slot ≡ watch_slot (variables_of book) (other_node walk.node)
+      → (get_or numbers slot 0 < length literals)
+      × (get_or literals (get_or numbers slot 0) 0 ≡ other_watch (clause_of (formula_of book) at.clause) (cell_of at.run at.clause) at.q)
   unfolding other_watch node_of
-  other_watch_lem start watch begin reads = go (eqb (get_or (clause_of formula c) (cell_of at.run c).first 0) at.q) (walking_node at.walking)
+  other_watch_lem d slot literals d-is read slot-is =
+      rw (literals_read d literals d-is read, slot-is)
+      (go (eqb (get_or (clause_of formula c) (cell_of at.run c).first 0) at.q) (walking_node at.walking))
     where
-      read : (p : ℕ) → watch ≡ p → p < size formula c
-          → (start + watch < length book) × (get_or book (start + watch) 0 ≡ get_or (clause_of formula c) p 0)
-      read p e h =
-          rw e
-          (spot_literal book at.well c p start (omega (arith, clause_inside_formula, clauses_counted book)) h
-          (begin ∙ ap (clause_start book) clause_is))
-
       go : (b : Bool) → walk.node ≡ cond b (2 * c + 1) (2 * c + 2)
-          → (start + watch < length book)
-          × (get_or book (start + watch) 0
+          → (get_or numbers (watch_slot (variables_of book) (other_node walk.node)) 0 < size formula c)
+          × (get_or (clause_of formula c) (get_or numbers (watch_slot (variables_of book) (other_node walk.node)) 0) 0
           ≡ cond b (get_or (clause_of formula c) (cell_of at.run c).second 0) (get_or (clause_of formula c) (cell_of at.run c).first 0))
       go true e =
           let place : watch_slot (variables_of book) (other_node walk.node) ≡ watches_at (variables_of book) + 2 * c + 1 =
           omega (arith, other_odd c walk.node e) in
-          read (cell_of at.run c).second
-          (reads ∙ ap (λ (x : ℕ). get_or numbers x 0) place ∙ at.encodes.watches.seconds c clause_inside_formula)
-          visited_seen.watching.second_within
+          rw (place, at.encodes.watches.seconds c clause_inside_formula) (visited_seen.watching.second_within, refl)
       go false e =
           let place : watch_slot (variables_of book) (other_node walk.node) ≡ watches_at (variables_of book) + 2 * c =
           omega (arith, other_even c walk.node e) in
-          read (cell_of at.run c).first
-          (reads ∙ ap (λ (x : ℕ). get_or numbers x 0) place ∙ at.encodes.watches.firsts c clause_inside_formula)
-          visited_seen.watching.first_within
+          rw (place, at.encodes.watches.firsts c clause_inside_formula) (visited_seen.watching.first_within, refl)
 
   -- it is a literal of the formula
   pub other_within : literal_within (variables_of book) (other_watch (clause_of (formula_of book) at.clause) (cell_of at.run at.clause) at.q) ≡ true
@@ -182,7 +155,7 @@ module _ {book numbers : List ℕ} {walk : Walk} (at : Visiting book numbers wal
       rw (← visited_seen.sides.there_literal)
       (literal_within_lem formula well_sound c visited_seen.sides.there visited_seen.sides.there_within)
 
-  pub other_bounded : (l : ℕ) → l ≡ other_watch (clause_of (formula_of book) at.clause) (cell_of at.run at.clause) at.q
+  other_bounded : (l : ℕ) → l ≡ other_watch (clause_of (formula_of book) at.clause) (cell_of at.run at.clause) at.q
       → (2 ≤ l) × (variable_of l ≤ variables_of book)
   other_bounded l e =
       let b = literal_parts (variables_of book) other other_within in
@@ -197,44 +170,54 @@ module _ {book numbers : List ℕ} {walk : Walk} (at : Visiting book numbers wal
       held_says at.encodes.trail visited_trailed.once (let s = spot.fits.long in omega arith) l (other_bounded l l-is).0 (other_bounded l l-is).1 r
       (rw vars-is at r-is)
 
-  -- it tells whether the literal is true
-  says_told : (l : ℕ) (value : Value) → ValueSays at.run.trail l value → tells_true value ≡ is_true at.run.trail l
-  says_told l Open says = sym says.0
-  says_told l True says = sym says.0
-  says_told l False says = sym says.0
-
   -- the run after a visit, whichever it is
-  pub visited_by : (after : List ℕ) (r : Visit) (run : Run) → visit (formula_of book) at.q at.clause at.run ≡ run
+  pub visited_by : (after : List ℕ) (r : Option Walk) (run : Run) → visit (formula_of book) at.q at.clause at.run ≡ run
       → Encodes (formula_of book) after run
       → length after ≡ length numbers → SameBehind book numbers after
       → VisitSays (formula_of book) at.q at.unread run r → Visited book numbers after at r
   visited_by after r run e encodes long behind says =
       record { encodes = rw e encodes; same_length = long; same_behind = behind; says = rw e says }
 
-  -- the other watch is true: the clause stays
-  pub visited_stays : (vars many l : ℕ) (next : Walk) → vars ≡ variables_of book → many ≡ clauses_of book
-      → l ≡ other_watch (clause_of (formula_of book) at.clause) (cell_of at.run at.clause) at.q
-      → (r : Value) → r ≡ value_read (get_or numbers (value_slot vars l) 0) l → tells_true r ≡ true
-      → KeptOn linked vars many numbers walk next → Visited book numbers numbers at (v.GoOn next)
-  unfolding visit action perform_action
-  visited_stays vars many l next vars-is many_is l-is r r-is told kept =
-      visited_by numbers (v.GoOn next) at.run (rw t) at.encodes refl refl
-      (at.reading.going.quiet, (at.passed ++ (c ∷ []), (rw (vars-is, many_is) at kept).walking visited_lists at.walking))
-    where
-      t : is_true at.run.trail other ≡ true
-      t = ap (is_true at.run.trail) (sym l-is) ∙ sym (says_told l r (other_says vars l r vars-is l-is r-is)) ∙ told
+  -- the other watch, as the code reads it: literal `get_or literals (get_or numbers slot 0) 0`
+  module _ {d node slot vars : ℕ} {literals : List ℕ} (d-is : d ≡ clause_of_node walk.node) (read : literals ≡ clause_at book d)
+      (vars-is : vars ≡ variables_of book) (node-is : node ≡ other_node walk.node) (slot-is : slot ≡ watch_slot vars node) where
+    abbrev watch : ℕ
+    watch = get_or literals (get_or numbers slot 0) 0
 
-  -- it is not: a new watch is sought
-  module _ (vars l : ℕ) (value : Value) (vars-is : vars ≡ variables_of book)
-      (l-is : l ≡ other_watch (clause_of (formula_of book) at.clause) (cell_of at.run at.clause) at.q)
-      (r-is : value ≡ value_read (get_or numbers (value_slot vars l) 0) l) (told : tells_true value ≡ false) where
-    value-says : ValueSays at.run.trail l value
-    value-says = other_says vars l value vars-is l-is r-is
+    reads : (get_or numbers slot 0 < length literals) × (watch ≡ other)
+    reads = other_watch_lem d slot literals d-is read (slot-is ∙ ap₂ watch_slot vars-is node-is)
 
-    pub visited_seeks : Seeking book numbers walk l value
-    visited_seeks = record { at = at; other_is = l-is; untrue = sym (says_told l value value-says) ∙ told; says = value-says }
+    pub watch_within : get_or numbers slot 0 < length literals
+    watch_within = reads.0
 
-    pub visited_sought : (after : List ℕ) (r : Visit)
-        → ((seeking : Seeking book numbers walk l value) → Visited book numbers after seeking.at r) → Visited book numbers after at r
-    unfolding visited_seeks
-    visited_sought after r h = h visited_seeks
+    pub watch_valued : TrailFits vars numbers × (2 ≤ get_or literals (get_or numbers slot 0) 0) × (variable_of (get_or literals (get_or numbers slot 0) 0) ≤ vars)
+    watch_valued =
+        let b = other_bounded watch reads.1 in
+        let s = spot in
+        (record { few_variables = omega arith; long = omega arith }, b.0, omega arith)
+
+    module _ {value : Value} (value-is : value ≡ value_read (get_or numbers (value_slot vars (get_or literals (get_or numbers slot 0) 0)) 0) (get_or literals (get_or numbers slot 0) 0)) where
+      says : ValueSays at.run.trail watch value
+      says = other_says vars watch value vars-is reads.1 value-is
+
+      -- it is true: the clause stays
+      pub visited_stays : sameb the_type value True ≡ true → {next : Walk} → KeptOn linked (variables_of book) (clauses_of book) numbers walk next
+          → Visited book numbers numbers at (Some next)
+      unfolding visit action perform_action
+      visited_stays told {next} kept =
+          visited_by numbers (Some next) at.run (rw t) at.encodes refl refl
+          (at.reading.going.quiet, (at.passed ++ (c ∷ []), kept.walking visited_lists at.walking))
+        where
+          t : is_true at.run.trail other ≡ true
+          t = ap (is_true at.run.trail) (sym reads.1) ∙ sym (says_true at.run.trail watch value says) ∙ told
+
+      -- it is not: a new watch is sought
+      module _ (told : sameb the_type value True ≡ false) where
+        pub visited_seeks : Seeking book numbers walk (get_or literals (get_or numbers slot 0) 0) value
+        visited_seeks = record { at = at; other_is = reads.1; untrue = sym (says_true at.run.trail watch value says) ∙ told; says = says }
+
+        pub visited_sought : {after : List ℕ} {r : Option Walk}
+            → ((seeking : Seeking book numbers walk (get_or literals (get_or numbers slot 0) 0) value) → Visited book numbers after seeking.at r)
+            → Visited book numbers after at r
+        unfolding visited_seeks
+        visited_sought h = h visited_seeks

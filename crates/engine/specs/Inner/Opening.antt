@@ -1,5 +1,5 @@
--- What the contracts of src/opening.rt cite: cleared numbers, first watches, clauses of one literal.
-use Rattle.std.specs.Prelude.{ℕ, ◌+◌, ◌*◌, ◌<◌, ◌≡◌, Bool, true, List, map, length, get_or, take, drop}
+-- What the contracts of src/opening.rt cite: first watches, clauses of one literal.
+use Rattle.std.specs.Prelude.{ℕ, ◌+◌, ◌*◌, ◌<◌, ◌≡◌, Bool, true, List, map, length, take, drop}
 use Rattle.base.specs.Lists.{times}
 use Rattle.book.specs.Numbers.{variables_of, formula_of, well_formed}
 use Rattle.run.specs.Run.{Run, clause_of, list_of, in_conflict, with_watches, first_cell, watch_all, fresh, assign_unit}
@@ -7,12 +7,6 @@ use Rattle.run.specs.Progress.{Opened}
 use Rattle.layout.specs.Encodes.{Encodes}
 use Rattle.engine.specs.Inner.Lists.{Orderly}
 use Rattle.engine.specs.Engine.{SameBehind, Becomes}
-
--- the first numbers are 0, and what lies behind them is untouched
-pub record Cleared (count : ℕ) (before after : List ℕ) : Type 0 where
-  pub same_length : length after ≡ length before
-  pub zeros : (i : ℕ) → i < count → get_or after i 0 ≡ 0
-  pub same_behind : drop count after ≡ drop count before
 
 -- The clauses before clause c have their first watches and stand in the lists of these; nothing else is set.
 pub record FirstWatches (book numbers : List ℕ) (c : ℕ) : Type 0 where

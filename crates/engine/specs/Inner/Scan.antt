@@ -1,13 +1,12 @@
 -- What the contracts of src/scan.rt cite: what a scan asks, and its answer as the run has it; what a value says of a literal.
-use Rattle.std.specs.Prelude.{ℕ, ◌≤◌, ◌<◌, ◌≡◌, true, false, List, length, get_or}
-use Rattle.std.proofs.Math.Option.{none, some}
+use Rattle.std.specs.Prelude.{ℕ, ◌≤◌, ◌<◌, ◌≡◌, true, false, List, length, get_or, Option, Some, None}
+use Rattle.std.proofs.Math.Option as m
 use Rattle.book.specs.Formula.{max_clause, variable_of}
 use Rattle.run.specs.Trail.{Entry, is_true, is_false}
 use Rattle.run.specs.Scan.{Scanned}
 use Rattle.layout.specs.declared.values.Value.{Value}
 use Rattle.layout.specs.declared.values.Value.TheVariants.{Open, True, False}
 use Rattle.engine.specs.declared.scan.Scan.{Scan}
-use Rattle.engine.specs.declared.scan.Scan.TheVariants as s
 
 -- what a scan asks: the pointer is a position, and every literal has an entry
 pub record ScanReady (clause values : List ℕ) (pointer : ℕ) : Type 0 where
@@ -16,10 +15,14 @@ pub record ScanReady (clause values : List ℕ) (pointer : ℕ) : Type 0 where
   pub low : (i : ℕ) → i < length clause → 2 ≤ get_or clause i 0
   pub within : (i : ℕ) → i < length clause → variable_of (get_or clause i 0) ≤ length values
 
+-- the position in an option of the program
+abbrev pub position_in : Option ℕ → m.Option ℕ
+position_in (Some position) = m.some position
+position_in None = m.none
+
 -- what a scan answers
 abbrev pub scanned_in : Scan → Scanned
-scanned_in (s.Found position checks) = record { found = some position; checks = checks }
-scanned_in (s.Nothing checks) = record { found = none; checks = checks }
+scanned_in scan = record { found = position_in scan.found; checks = scan.checks }
 
 -- what a value says of a literal on the trail
 abbrev pub ValueSays : List Entry → ℕ → Value → Type 0

@@ -1,5 +1,5 @@
 -- What the contracts of src/visit.rt cite: one clause of the list that is read, before and after its visit.
-use Rattle.std.specs.Prelude.{ℕ, ◌+◌, ◌-◌, ◌<◌, ◌%◌, min, ◌≡◌, true, Bool, false, cond, List, ◌∷◌, map, eqb, length, get_or, set}
+use Rattle.std.specs.Prelude.{ℕ, ◌+◌, ◌-◌, ◌<◌, ◌%◌, min, ◌≡◌, true, false, cond, List, ◌∷◌, map, eqb, length, get_or, set, Option, Some, None}
 use Rattle.base.specs.Lists.{distinct}
 use Rattle.book.specs.Formula.{Formula, variable_of}
 use Rattle.book.specs.Numbers.{formula_of, well_formed, clauses_of}
@@ -10,13 +10,10 @@ use Rattle.run.specs.Progress.{ReadingList}
 use Rattle.layout.specs.Layout.{pointers_at, clause_of_node, watch_slot}
 use Rattle.layout.specs.Encodes.{Encodes}
 use Rattle.layout.specs.declared.values.Value.{Value}
-use Rattle.layout.specs.declared.values.Value.TheVariants.{Open, True, False}
 use Rattle.engine.specs.Engine.{SameBehind}
 use Rattle.engine.specs.Inner.Lists.{Walking, linked}
 use Rattle.engine.specs.Inner.Scan.{ValueSays}
 use Rattle.engine.specs.declared.lists.Walk.{Walk}
-use Rattle.engine.specs.declared.visit.Visit.{Visit}
-use Rattle.engine.specs.declared.visit.Visit.TheVariants as v
 
 -- The list of q is read: a walk along it stands at a clause, behind those that are passed.
 pub record Visiting (book numbers : List ℕ) (walk : Walk) : Type 0 where
@@ -32,12 +29,12 @@ pub record Visiting (book numbers : List ℕ) (walk : Walk) : Type 0 where
   pub walking : Walking linked (formula_of book) run.cells run.lists q passed (clause ∷ unread) walk
 
 -- the run after the visit is in conflict, or the walk is behind the clause
-abbrev pub VisitSays : Formula → ℕ → List ℕ → Run → Visit → Type 0
-VisitSays formula q unread after (v.GoOn next) =
+abbrev pub VisitSays : Formula → ℕ → List ℕ → Run → Option Walk → Type 0
+VisitSays formula q unread after (Some next) =
     (after.conflict ≡ 0) × ((passed : List ℕ) × Walking linked formula after.cells after.lists q passed unread next)
-VisitSays formula q unread after v.Conflict = in_conflict after ≡ true
+VisitSays formula q unread after None = in_conflict after ≡ true
 
-pub record Visited (book before after : List ℕ) {walk : Walk} (at : Visiting book before walk) (r : Visit) : Type 0 where
+pub record Visited (book before after : List ℕ) {walk : Walk} (at : Visiting book before walk) (r : Option Walk) : Type 0 where
   pub encodes : Encodes (formula_of book) after (visit (formula_of book) at.q at.clause at.run)
   pub same_length : length after ≡ length before
   pub same_behind : SameBehind book before after
@@ -64,12 +61,6 @@ pub record Scannable (book numbers : List ℕ) (c : ℕ) : Type 0 where
   pub once : distinct (map (λ (e : Entry). variable_of e.literal) run.trail) ≡ true
   pub inside : c < clauses_of book
   pub watching : Watching (size (formula_of book) c) (cell_of run c)
-
--- whether a value is true
-abbrev pub tells_true : Value → Bool
-tells_true Open = false
-tells_true True = true
-tells_true False = false
 
 -- The other watch of the clause is not true, and its value is known.
 pub record Seeking (book numbers : List ℕ) (walk : Walk) (other : ℕ) (value : Value) : Type 0 where

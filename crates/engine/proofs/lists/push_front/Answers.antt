@@ -1,11 +1,7 @@
-use native.Mathlib.Omega.{arith}
-use lib.ListN.{length-set}
 use Rattle.engine.proofs.lists.PushLaws.{slot_pushed_front}
 use Rattle.engine.proofs.lists.push_front.Goals as goal
 
-pub bounds-session-head-2 : goal.bounds-session-head-2
-bounds-session-head-2 c = simp length-set (omega arith)
-
 pub returns : goal.returns
 returns c =
-    slot_pushed_front c.requires.1 c.requires.2 c.requires.3 c.requires.4 (rw (c.head_slot-head.ensures, c.link_slot-link.ensures))
+    slot_pushed_front c.requires.1 c.requires.2 c.requires.3 c.requires.4
+    (rw (c.head_slot-head.ensures, c.link_slot-link.ensures, c.variables-variables.ensures, c.clauses-clauses.ensures))
