@@ -1,5 +1,5 @@
 -- Request K11, tell us beforehand: the calls of a script, its lines of the form `b k`, what is quoted for it on a book, and what that covers.
-use Rattle.std.specs.Prelude.{ℕ, ◌+◌, ◌*◌, ◌≤◌, ◌≡◌, Bool, true, false, cond, List, [], ◌∷◌, ◌++◌, map, ltb, length}
+use Rattle.std.specs.Prelude.{ℕ, ◌+◌, ◌*◌, ◌≤◌, ◌≡◌, Bool, true, false, cond, Option, Some, None, List, [], ◌∷◌, ◌++◌, map, ltb, length}
 use Rattle.base.specs.Lists.{keep, flat, sum}
 use Rattle.book.specs.Formula.{Formula}
 use Rattle.book.specs.Numbers.{variables_of, clauses_of, well_formed, formula_of}
@@ -7,26 +7,26 @@ use Rattle.run.specs.Calls.{Call, decision, backtrack_by, reference}
 use Rattle.run.specs.Ceiling.{worst}
 use Rattle.layout.specs.Layout.{required_length}
 use Rattle.script.specs.declared.Line.{Line}
-use Rattle.script.specs.declared.Line.TheVariants.{Choose, Back, Malformed}
+use Rattle.script.specs.declared.Line.TheVariants.{Choose, Back}
 use Rattle.script.specs.Script.{script_lines, line_of}
 use Rattle.script.specs.Desk.{end_line_of}
 use Rattle.quote.specs.declared.Quote.{Quote}
 use Rattle.quote.specs.declared.Quote.TheVariants.{Of, Refused}
 
 -- The calls that a script asks for, line by line; a malformed line asks for none.
-unfoldable pub line_calls : Line → List Call
-line_calls (Choose l) = decision l ∷ []
-line_calls (Back k) = backtrack_by k ∷ []
-line_calls Malformed = []
+unfoldable pub line_calls : Option Line → List Call
+line_calls (Some (Choose l)) = decision l ∷ []
+line_calls (Some (Back k)) = backtrack_by k ∷ []
+line_calls None = []
 
 unfoldable pub script_calls : List ℕ → List Call
 script_calls script = flat (map (λ (line : List ℕ). line_calls (line_of line)) (script_lines script))
 
 -- a line of the form `b k`, as the script program reads lines, whatever k is
-unfoldable pub is_back : Line → Bool
-is_back (Choose l) = false
-is_back (Back k) = true
-is_back Malformed = false
+unfoldable pub is_back : Option Line → Bool
+is_back (Some (Choose l)) = false
+is_back (Some (Back k)) = true
+is_back None = false
 
 -- b: how many lines of a script are of that form, accepted or not.
 unfoldable pub back_lines : List ℕ → ℕ

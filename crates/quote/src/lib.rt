@@ -10,6 +10,9 @@ use layout::ceiling::worst;
 // The most lines of the form `b k` in a script that is quoted for (`max_back_lines`).
 const MAX_BACK_LINES: usize = 1000000;
 
+// The byte that ends a line.
+const LINE_END: u8 = b'\n';
+
 // What a quote tells: the session's length, W, how many lines of the form `b k` the script has, and the quoted ceiling; or the refusal number.
 #[derive(Clone, Copy)]
 pub enum Quote {
@@ -23,30 +26,21 @@ pub enum Quote {
 }
 
 // Whether a line, without its byte 10, is of the form `b k`.
+#[tactic(auto, unfolding(crate::specs::Quote::is_back))]
 fn is_back(line: &[u8]) -> bool
     ensures { result ≡ is_back (line_of line.now) }
 {
-    match script::parse_line(line) {
-        script::Line::Choose(_) => false,
-        script::Line::Back(_) => true,
-        script::Line::Malformed => false,
-    }
+    matches!(script::parse_line(line), Some(script::Line::Back(_)))
 }
 
 // How many lines of a script are of the form `b k`.
 fn back_lines(script: &[u8]) -> usize
     ensures { result ≡ back_lines script.now }
 {
-    let mut count = 0;
-    let mut at = 0;
-    while at < script.len() {
-        let end = at + script::line_end(&script[at..]);
-        if is_back(&script[at..end]) {
-            count += 1;
-        }
-        at = end + 1;
-    }
-    count
+    script
+        .split(|byte| *byte == LINE_END)
+        .filter(|line| is_back(line))
+        .count()
 }
 
 // Quotes for a session on a book and the script that is to be run there.
