@@ -1,10 +1,10 @@
 -- Document 01's table of refusals: the number of each, the refusal of each number, and what a call comes to by its refusal number.
-use Rattle.std.specs.Prelude.{ℕ, cond, List, [], ◌∷◌, eqb, Result, Ok, Err}
+use Rattle.std.specs.Prelude.{ℕ, cond, List, [], ◌∷◌, eqb, Result, Ok, Err, ⊤}
 use Rattle.refusals.specs.declared.Refusal.{Refusal}
 use Rattle.refusals.specs.declared.Refusal.TheVariants as refusal
 
 -- The number of a refusal.
-unfoldable pub number_of : Refusal → ℕ
+abbrev pub number_of : Refusal → ℕ
 number_of refusal.LongText = 1
 number_of refusal.Header = 2
 number_of refusal.Counts = 3
@@ -49,3 +49,7 @@ refusal_of n = first_with n refusals
 -- What a call comes to, by the refusal number, which is 0 where the call is accepted.
 abbrev pub outcome : {A : Type 0} → ℕ → A → Result A Refusal
 outcome number said = cond (eqb number 0) (Ok said) (Err (refusal_of number))
+
+-- What a test of a call comes to: passed, or the refusal.
+abbrev pub checked : ℕ → Result ⊤ Refusal
+checked number = outcome number tt

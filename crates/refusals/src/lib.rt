@@ -62,7 +62,6 @@ pub enum Refusal {
 
 impl Refusal {
     /// The number of the table.
-    #[tactic(auto, unfolding(crate::specs::Refusals::number_of))]
     pub fn number(self) -> u32
         ensures { result ≡ number_of self }
     {

@@ -1,4 +1,9 @@
 -- Decision, backtrack, lookup and what only reads, way out by way out: the refusals in their order, and what an accepted call answers and leaves.
+use Rattle.std.specs.Prelude.{Ok, Err}
+use Rattle.refusals.specs.declared.Refusal.{Refusal}
+use Rattle.refusals.specs.declared.Refusal.TheVariants as refusal
+use Rattle.refusals.specs.Refusals.{refusals, first_with, refusal_of, checked}
+use Rattle.refusals.proofs.OutcomeLaws.{outcome_refused}
 use Rattle.run.proofs.Opposites.{opposite_positive}
 use Rattle.layout.specs.Layout.{length_at, decisions_at, conflict_at, backtracks_at, fixed_at, required_length, held}
 use Rattle.book.specs.Formula.{max_variables, literal_within, positive, negative}
@@ -21,19 +26,14 @@ use Rattle.run.specs.Calls.{decide_refusal, backtrack_refusal, max_backtracks}
 use Rattle.run.proofs.Conflicts.{quiet_out}
 use Rattle.run.proofs.Theorems.{decide_valid, backtrack_valid, decide_longer}
 use Rattle.run.proofs.Fixed.{none_or_over_16}
-use Rattle.validation.specs.Validation.{read_refusal}
+use Rattle.validation.specs.Validation.{call_refusal, read_refusal}
 use Rattle.session.specs.Outcomes.{session_decide_refusal, decide_answer, decide_numbers, session_backtrack_refusal, backtrack_answer, backtrack_numbers, lookup_refusal, lookup_answer, figures_answer, total_answer, copy_answer, copy_numbers}
 use Rattle.layout.specs.Values.{value_in}
 use Rattle.layout.proofs.ValueLaws.{value_true, value_false, value_open}
 use Rattle.engine.specs.Engine.{Becomes, Holding}
 use Rattle.session.specs.Inner.Answers.{head_answer}
 use Rattle.layout.specs.declared.values.Value.{Value}
-use Rattle.session.specs.declared.Answer.TheVariants as answer
-use Rattle.session.specs.declared.Back.TheVariants as back
 use Rattle.session.specs.declared.Assigned.TheVariants as assigned
-use Rattle.session.specs.declared.Shown.TheVariants as shown
-use Rattle.session.specs.declared.Count.TheVariants as count
-use Rattle.session.specs.declared.Sum.TheVariants as total
 use Rattle.layout.specs.declared.values.Value.TheVariants as value
 
 -- what a lookup itself refuses
@@ -106,14 +106,14 @@ module _ (book session : List ℕ) where
       back_accepted h = sym (back_by false (lt-leb max_backtracks (held (formula_of book) session).backtracks (omega (arith, backtracks_are book session none))))
 
     -- a lookup
-    outside-variable : (v : ℕ) → (leb 1 v && leb v (variables_of book)) ≡ false → assigned.Refused 13 ≡ lookup_answer book session v
-    unfolding lookup_answer lookup_refusal
+    outside-variable : (v : ℕ) → (leb 1 v && leb v (variables_of book)) ≡ false → Err refusal.NoVariable ≡ lookup_answer book session v
+    unfolding lookup_answer lookup_refusal refusal_of first_with refusals
     outside-variable v e = rw (own_refusal book session none (variable_refusal book v), e)
 
-    pub variable_none : (v : ℕ) → v ≡ 0 → assigned.Refused 13 ≡ lookup_answer book session v
+    pub variable_none : (v : ℕ) → v ≡ 0 → Err refusal.NoVariable ≡ lookup_answer book session v
     variable_none v z = outside-variable v (rw (lt-leb 1 v (omega arith)))
 
-    pub variable_over : (v : ℕ) → variables_of book < v → assigned.Refused 13 ≡ lookup_answer book session v
+    pub variable_over : (v : ℕ) → variables_of book < v → Err refusal.NoVariable ≡ lookup_answer book session v
     variable_over v h = outside-variable v (rw (lt-leb v (variables_of book) h) (and-false (leb 1 v)))
 
     -- what is read for the positive literal of a variable is what is answered, with the level of the literal that is true
@@ -122,7 +122,7 @@ module _ (book session : List ℕ) where
       trail = (held (formula_of book) session).trail
 
       pub answered_by : (t f : Bool) → is_true trail (positive v) ≡ t → is_true trail (negative v) ≡ f
-          → lookup_answer book session v ≡ cond t (assigned.Positive (level trail (positive v))) (cond f (assigned.Negative (level trail (negative v))) assigned.Open)
+          → lookup_answer book session v ≡ Ok (cond t (assigned.Positive (level trail (positive v))) (cond f (assigned.Negative (level trail (negative v))) assigned.Open))
       unfolding lookup_answer lookup_refusal
       answered_by t f p q =
           rw (own_refusal book session none (variable_refusal book v), le-leb 1 v low, le-leb v (variables_of book) high, p, q)
@@ -130,42 +130,59 @@ module _ (book session : List ℕ) where
       negative-is : is_true trail (negative v) ≡ is_false trail (positive v)
       negative-is = ap (is_true trail) (sym (opposite_positive v))
 
-      pub answered_open : value.Open ≡ value_in trail (positive v) → assigned.Open ≡ lookup_answer book session v
+      pub answered_open : value.Open ≡ value_in trail (positive v) → Ok assigned.Open ≡ lookup_answer book session v
       answered_open e = let none_true = value_open trail (positive v) (sym e) in sym (answered_by false false none_true.0 (negative-is ∙ none_true.1))
 
-      pub answered_true : value.True ≡ value_in trail (positive v) → (is_true trail (positive v) ≡ true) × (assigned.Positive (level trail (positive v)) ≡ lookup_answer book session v)
+      pub answered_true : value.True ≡ value_in trail (positive v) → (is_true trail (positive v) ≡ true) × (Ok (assigned.Positive (level trail (positive v))) ≡ lookup_answer book session v)
       answered_true e = let t = value_true trail (positive v) (sym e) in (t, sym (answered_by true (is_true trail (negative v)) t refl))
 
-      pub answered_false : value.False ≡ value_in trail (positive v) → (is_true trail (negative v) ≡ true) × (assigned.Negative (level trail (negative v)) ≡ lookup_answer book session v)
+      pub answered_false : value.False ≡ value_in trail (positive v) → (is_true trail (negative v) ≡ true) × (Ok (assigned.Negative (level trail (negative v))) ≡ lookup_answer book session v)
       answered_false e =
           let other = value_false trail (positive v) (sym e) in
           (negative-is ∙ other.1, sym (answered_by false true other.0 (negative-is ∙ other.1)))
 
   -- what a refused session call answers and leaves
-  pub decide_refused : (l n : ℕ) → n ≡ session_decide_refusal book session l → (n ≡ 0 → ⊥) → (answer.Refused n ≡ decide_answer book session l) × (session ≡ decide_numbers book session l)
+  pub decide_refused : (l : ℕ) (r : Refusal) → Err r ≡ checked (session_decide_refusal book session l)
+      → (Err r ≡ decide_answer book session l) × (session ≡ decide_numbers book session l)
   unfolding decide_answer decide_numbers
-  decide_refused l n e h = (rw (← e, ne_eqb n 0 h), rw (← e, ne_eqb n 0 h))
+  decide_refused l r e =
+      let refused = outcome_refused _ _ r (sym e) in
+      (rw (ne_eqb (session_decide_refusal book session l) 0 refused.0, refused.1), rw (ne_eqb (session_decide_refusal book session l) 0 refused.0))
 
-  pub back_refused : (k n : ℕ) → n ≡ session_backtrack_refusal book session k → (n ≡ 0 → ⊥) → (back.Refused n ≡ backtrack_answer book session k) × (session ≡ backtrack_numbers book session k)
+  pub back_refused : (k : ℕ) (r : Refusal) → Err r ≡ checked (session_backtrack_refusal book session k)
+      → (Err r ≡ backtrack_answer book session k) × (session ≡ backtrack_numbers book session k)
   unfolding backtrack_answer backtrack_numbers
-  back_refused k n e h = (rw (← e, ne_eqb n 0 h), rw (← e, ne_eqb n 0 h))
+  back_refused k r e =
+      let refused = outcome_refused _ _ r (sym e) in
+      (rw (ne_eqb (session_backtrack_refusal book session k) 0 refused.0, refused.1), rw (ne_eqb (session_backtrack_refusal book session k) 0 refused.0))
 
-  pub lookup_refused : (v n : ℕ) → n ≡ read_refusal book session → (n ≡ 0 → ⊥) → assigned.Refused n ≡ lookup_answer book session v
+  -- a call that examines the session and refuses by more is refused by 11 and 12 first
+  pub refused_alike_first : (own : Run → ℕ) (r : Refusal) → Err r ≡ checked (read_refusal book session) → Err r ≡ checked (call_refusal book session own)
+  refused_alike_first own r e =
+      let refused = outcome_refused _ _ r (sym e) in
+      let same = refused_first book session own (read_refusal book session) refl refused.0 in
+      rw (← same) e
+
+  pub lookup_refused : (v : ℕ) (r : Refusal) → Err r ≡ checked (read_refusal book session) → Err r ≡ lookup_answer book session v
   unfolding lookup_answer lookup_refusal
-  lookup_refused v n e h = rw (← (refused_first book session (variable_refusal book v) n e h), ne_eqb n 0 h)
+  lookup_refused v r e =
+      let refused = outcome_refused _ _ r (sym e) in
+      rw (← (refused_first book session (variable_refusal book v) (read_refusal book session) refl refused.0), ne_eqb (read_refusal book session) 0 refused.0, refused.1)
 
-  pub total_refused : (n : ℕ) → n ≡ read_refusal book session → (n ≡ 0 → ⊥) → total.Refused n ≡ total_answer book session
+  pub total_refused : (r : Refusal) → Err r ≡ checked (read_refusal book session) → Err r ≡ total_answer book session
   unfolding total_answer
-  total_refused n e h = rw (← e, ne_eqb n 0 h)
+  total_refused r e = let refused = outcome_refused _ _ r (sym e) in rw (ne_eqb (read_refusal book session) 0 refused.0, refused.1)
 
-  pub copy_refused : (part : Run → List ℕ) (out : List ℕ) (n : ℕ) → n ≡ read_refusal book session → (n ≡ 0 → ⊥)
-      → (count.Refused n ≡ copy_answer book session part) × (out ≡ copy_numbers book session part out)
+  pub copy_refused : (part : Run → List ℕ) (out : List ℕ) (r : Refusal) → Err r ≡ checked (read_refusal book session)
+      → (Err r ≡ copy_answer book session part) × (out ≡ copy_numbers book session part out)
   unfolding copy_answer copy_numbers
-  copy_refused part out n e h = (rw (← e, ne_eqb n 0 h), rw (← e, ne_eqb n 0 h))
+  copy_refused part out r e =
+      let refused = outcome_refused _ _ r (sym e) in
+      (rw (ne_eqb (read_refusal book session) 0 refused.0, refused.1), rw (ne_eqb (read_refusal book session) 0 refused.0))
 
-  pub figures_refused : (n : ℕ) → n ≡ read_refusal book session → (n ≡ 0 → ⊥) → shown.Refused n ≡ figures_answer book session
+  pub figures_refused : (r : Refusal) → Err r ≡ checked (read_refusal book session) → Err r ≡ figures_answer book session
   unfolding figures_answer
-  figures_refused n e h = rw (← e, ne_eqb n 0 h)
+  figures_refused r e = let refused = outcome_refused _ _ r (sym e) in rw (ne_eqb (read_refusal book session) 0 refused.0, refused.1)
 
   -- what an accepted call answers and leaves
   module _ (l : ℕ) (accepted : 0 ≡ session_decide_refusal book session l) where
@@ -178,12 +195,12 @@ module _ (book session : List ℕ) where
     decide_own = sym (accepted ∙ own_refusal book session decide_none (decide_refusal (formula_of book) l))
 
     pub decide_done : (now : List ℕ) → Becomes book session now (decide (formula_of book) l (held (formula_of book) session))
-        → (head_answer now (get_or session length_at 0 + 1) ≡ decide_answer book session l) × (now ≡ decide_numbers book session l)
+        → (Ok (head_answer now (get_or session length_at 0 + 1)) ≡ decide_answer book session l) × (now ≡ decide_numbers book session l)
     unfolding decide_answer decide_numbers
     decide_done now b =
         let next : Run = decide (formula_of book) l (held (formula_of book) session) in
         let before : get_or session length_at 0 + 1 ≡ suc (length (held (formula_of book) session).trail) = omega (arith, count_is book session decide_none) in (
-          rw (← accepted, before) (head_answer_lem (formula_of book) now next (suc (length (held (formula_of book) session).trail)) b.encodes),
+          rw (← accepted, before) (ap Ok (head_answer_lem (formula_of book) now next (suc (length (held (formula_of book) session).trail)) b.encodes)),
           rw (← accepted)
               (becomes_overwritten book session now next (well book session decide_none)
               (decide_valid (formula_of book) l (held (formula_of book) session) (well_formed_sound book (well book session decide_none)) (facts book session decide_none).0 decide_own)
@@ -217,7 +234,7 @@ module _ (book session : List ℕ) where
     back_holding = holding book session back_first
 
     pub back_done : (now : List ℕ) → Becomes book session now (backtrack k (held (formula_of book) session))
-        → (back.Done ≡ backtrack_answer book session k) × (now ≡ backtrack_numbers book session k)
+        → (Ok tt ≡ backtrack_answer book session k) × (now ≡ backtrack_numbers book session k)
     unfolding backtrack_answer backtrack_numbers
     back_done now b = (
       rw (← accepted),

@@ -1,4 +1,6 @@
 -- The calls on a session that holds a valid run: what each answers, and what the lent numbers are afterwards.
+use Rattle.std.specs.Prelude.{Ok, Err}
+use Rattle.refusals.specs.Refusals.{refusal_of}
 use Prim.Native.Nat.{ℕ}
 use mathlib.Core.Path.{◌≡◌, refl, ap}
 use mathlib.Core.Bool.{Bool, true, false, cond}
@@ -17,7 +19,7 @@ use Rattle.run.specs.Valid.{Valid}
 use Rattle.run.proofs.Theorems.{open_valid, step_valid}
 use Rattle.layout.specs.Layout.{SessionFits, required_length, encode, held}
 use Rattle.validation.specs.Validation.{passes, call_refusal}
-use Rattle.session.specs.Outcomes.{accepted, refused, session_after, overwritten, open_refusal, open_numbers, session_decide_refusal, decide_numbers, session_backtrack_refusal, backtrack_numbers, session_fix_refusal, fix_numbers, call_numbers, played_numbers, replay_numbers}
+use Rattle.session.specs.Outcomes.{session_after, overwritten, open_refusal, open_numbers, session_decide_refusal, decide_numbers, session_backtrack_refusal, backtrack_numbers, session_fix_refusal, fix_numbers, call_numbers, played_numbers, replay_numbers}
 use Rattle.layout.proofs.EncodeLaws.{length_encode}
 use Rattle.layout.proofs.HeldLaws.{held_encode}
 use Rattle.validation.proofs.PassLaws.{passes_encode}
@@ -45,7 +47,7 @@ module _ (book buffer : List ℕ) (well : well_formed book ≡ true) (run : Run)
 
   -- a call leaves the numbers of the run's next step
   chosen : (b : Bool) (number : ℕ) (next : Run)
-      → session_after (formula_of book) (overwritten (formula_of book) run buffer) (cond b (accepted next) (refused number))
+      → session_after (formula_of book) (overwritten (formula_of book) run buffer) (cond b (Ok next) (Err (refusal_of number)))
       ≡ overwritten (formula_of book) (cond b next run) buffer
   chosen true number next = overwritten_again (formula_of book) run next buffer
   chosen false number next = refl

@@ -1,4 +1,5 @@
 -- The fixed decisions of every session that passes: they stay; the way back out of a conflict, and where there is none; what a fixing stores; an opening fixes nothing.
+use Rattle.std.specs.Prelude.{Ok}
 use Prim.Native.Nat.{ℕ, ◌≤◌}
 use native.Mathlib.Omega.{arith}
 use mathlib.Core.Path.{◌≡◌, refl, ap, sym, ◌∙◌}
@@ -21,7 +22,6 @@ use Rattle.validation.specs.Validation.{read_refusal}
 use Rattle.session.specs.Outcomes.{overwritten, open_refusal, open_numbers, session_decide_refusal, session_backtrack_refusal, session_fix_refusal, fix_numbers, fixed_answer, lookup_answer, call_numbers, played_numbers}
 use Rattle.session.specs.Statement.{FixedStay}
 use Rattle.session.specs.declared.Assigned.TheVariants.{Positive, Negative}
-use Rattle.session.specs.declared.Count.TheVariants.{Of}
 use Rattle.session.proofs.CallLaws.{held_overwritten, call_refusal_lem, played, open_accepted}
 use Rattle.session.proofs.PassedLaws.{well, facts, own_refusal, true_within}
 use Rattle.session.proofs.Statements.{whole, fixed_after, call_holds, call_passes}
@@ -43,16 +43,16 @@ module _ (book : List ℕ) where
     (facts book (call_numbers book session call) (sym (call_passes book session e call))).0.fixed_within_lem,
   )
 
-  kept_positive : (calls : List Call) (session : List ℕ) (v n : ℕ) → n ≤ (held (formula_of book) session).fixed → lookup_answer book session v ≡ Positive n
-      → lookup_answer book (played_numbers book session calls) v ≡ Positive n
+  kept_positive : (calls : List Call) (session : List ℕ) (v n : ℕ) → n ≤ (held (formula_of book) session).fixed → lookup_answer book session v ≡ Ok (Positive n)
+      → lookup_answer book (played_numbers book session calls) v ≡ Ok (Positive n)
   unfolding played_numbers
   kept_positive [] session v n low a = a
   kept_positive (call ∷ calls) session v n low a =
       let still = still_fixed session (sym (positive_shown book session v n a).0.none) call in
       kept_positive calls (call_numbers book session call) v n (omega arith) ((levels_after book session call).positive_stays v n a (omega arith))
 
-  kept_negative : (calls : List Call) (session : List ℕ) (v n : ℕ) → n ≤ (held (formula_of book) session).fixed → lookup_answer book session v ≡ Negative n
-      → lookup_answer book (played_numbers book session calls) v ≡ Negative n
+  kept_negative : (calls : List Call) (session : List ℕ) (v n : ℕ) → n ≤ (held (formula_of book) session).fixed → lookup_answer book session v ≡ Ok (Negative n)
+      → lookup_answer book (played_numbers book session calls) v ≡ Ok (Negative n)
   unfolding played_numbers
   kept_negative [] session v n low a = a
   kept_negative (call ∷ calls) session v n low a =
@@ -92,7 +92,7 @@ module _ (book session : List ℕ) (e : read_refusal book session ≡ 0) where
     unfolding read_refusal
     later-passes = rw later-is (call_refusal_lem book session ok reached reached-valid (λ (r : Run). 0))
 
-    later-told : fixed_answer book later ≡ Of (held formula later).fixed
+    later-told : fixed_answer book later ≡ Ok (held formula later).fixed
     later-told = rw (later-held, later-is) (fixed_after book session ok reached reached-valid)
 
   -- Whatever is called, the fixed decisions stay.
@@ -154,9 +154,9 @@ fixing_stores_one book session f e =
     ∙ ap (λ (numbers : List ℕ). set numbers fixed_at f) (sym (whole book session (sym (fix_none book session f (sym e))))))
 
 -- An accepted opening fixes nothing, whatever was lent.
-pub opening_fixes_none : (book buffer : List ℕ) → open_refusal book (length buffer) ≡ 0 → fixed_answer book (open_numbers book buffer) ≡ Of 0
+pub opening_fixes_none : (book buffer : List ℕ) → open_refusal book (length buffer) ≡ 0 → fixed_answer book (open_numbers book buffer) ≡ Ok 0
 unfolding open_numbers
 opening_fixes_none book buffer e =
     let ok : well_formed book ≡ true = (open_accepted book buffer e).well in
     let s = well_formed_sound book ok in
-    rw e (fixed_after book buffer ok (open_run (formula_of book)) (open_valid (formula_of book) s) ∙ ap Of (open_fixed (formula_of book) s))
+    rw e (fixed_after book buffer ok (open_run (formula_of book)) (open_valid (formula_of book) s) ∙ ap Ok (open_fixed (formula_of book) s))

@@ -1,4 +1,9 @@
 -- Opening and replay, way out by way out: the refusals in their order, and what an accepted one answers and leaves.
+use Rattle.std.specs.Prelude.{Ok, Err}
+use Rattle.refusals.specs.declared.Refusal.{Refusal}
+use Rattle.refusals.specs.declared.Refusal.TheVariants as refusal
+use Rattle.refusals.specs.Refusals.{refusals, first_with, refusal_of, checked}
+use Rattle.refusals.proofs.OutcomeLaws.{outcome_refused}
 use Rattle.layout.specs.Layout.{trail_at, required_length, encode}
 use Rattle.book.specs.Formula.{Formula}
 use Prim.Native.Nat.{ℕ, ◌-◌, ◌≤◌, ◌<◌}
@@ -22,15 +27,14 @@ use Rattle.engine.specs.Engine.{Becomes}
 use Rattle.session.specs.Inner.Answers.{head_answer}
 use Rattle.layout.proofs.EncodeLaws.{encodes_encode, encode_encodes}
 use Rattle.session.proofs.CallLaws.{open_accepted, replayed}
-use Rattle.session.specs.declared.Answer.TheVariants as answer
-use Rattle.session.specs.declared.Count.TheVariants as count
+use Rattle.session.specs.declared.Propagated.TheVariants as propagated
 
 -- the header answers for the run that the numbers hold
 pub head_answer_lem : (formula : Formula) (numbers : List ℕ) (run : Run) (before : ℕ) → Encodes formula numbers run → head_answer numbers before ≡ propagated_answer before run
 unfolding propagated_answer
 head_answer_lem formula numbers run before e = rw (e.trail.count, e.conflict) (go (eqb run.conflict 0))
   where
-    go : (b : Bool) → cond b (answer.Implied (length run.trail - before)) (answer.Conflict run.conflict) ≡ cond (not b) (answer.Conflict run.conflict) (answer.Implied (length run.trail - before))
+    go : (b : Bool) → cond b (propagated.Implied (length run.trail - before)) (propagated.Conflict run.conflict) ≡ cond (not b) (propagated.Conflict run.conflict) (propagated.Implied (length run.trail - before))
     go true = refl
     go false = refl
 
@@ -48,11 +52,11 @@ unfolding overwritten
 overwritten_is book buffer calls e = replayed book buffer calls e
 
 module _ (book buffer : List ℕ) where
-  pub required_eleven : well_formed book ≡ false → count.Refused 11 ≡ required_answer book
-  unfolding required_answer
+  pub required_eleven : well_formed book ≡ false → Err refusal.Book ≡ required_answer book
+  unfolding required_answer refusal_of first_with refusals
   required_eleven e = rw e
 
-  pub required_is : well_formed book ≡ true → count.Of (required_length (variables_of book) (clauses_of book)) ≡ required_answer book
+  pub required_is : well_formed book ≡ true → Ok (required_length (variables_of book) (clauses_of book)) ≡ required_answer book
   unfolding required_answer
   required_is e = rw e
 
@@ -68,24 +72,28 @@ module _ (book buffer : List ℕ) where
   unfolding open_refusal
   open_none room e h = rw (e, le-ltb room (required_length (variables_of book) (clauses_of book)) h)
 
-  pub open_refused : (n : ℕ) → n ≡ open_refusal book (length buffer) → (n ≡ 0 → ⊥) → (answer.Refused n ≡ open_answer book (length buffer)) × (buffer ≡ open_numbers book buffer)
+  pub open_refused : (r : Refusal) → Err r ≡ checked (open_refusal book (length buffer)) → (Err r ≡ open_answer book (length buffer)) × (buffer ≡ open_numbers book buffer)
   unfolding open_answer open_numbers
-  open_refused n e h = (rw (← e, ne_eqb n 0 h), rw (← e, ne_eqb n 0 h))
+  open_refused r e =
+      let refused = outcome_refused _ _ r (sym e) in
+      (rw (ne_eqb (open_refusal book (length buffer)) 0 refused.0, refused.1), rw (ne_eqb (open_refusal book (length buffer)) 0 refused.0))
 
   pub open_done : (now : List ℕ) → 0 ≡ open_refusal book (length buffer) → Becomes book buffer now (open_run (formula_of book))
-      → (head_answer now 0 ≡ open_answer book (length buffer)) × (now ≡ open_numbers book buffer)
+      → (Ok (head_answer now 0) ≡ open_answer book (length buffer)) × (now ≡ open_numbers book buffer)
   unfolding open_answer open_numbers
   open_done now e b =
       let well : well_formed book ≡ true = (open_accepted book buffer (sym e)).well in (
-        rw (← e) (head_answer_lem (formula_of book) now (open_run (formula_of book)) 0 b.encodes),
+        rw (← e) (ap Ok (head_answer_lem (formula_of book) now (open_run (formula_of book)) 0 b.encodes)),
         rw (← e) (becomes_overwritten book buffer now (open_run (formula_of book)) well (open_valid (formula_of book) (well_formed_sound book well)) b),
       )
 
   -- a refused replay, and an accepted one
-  pub replay_refused : (calls : List Call) (n : ℕ) → n ≡ open_refusal book (length buffer) → (n ≡ 0 → ⊥)
-      → (answer.Refused n ≡ replay_answer book calls (length buffer)) × (buffer ≡ replay_numbers book calls buffer)
+  pub replay_refused : (calls : List Call) (r : Refusal) → Err r ≡ checked (open_refusal book (length buffer))
+      → (Err r ≡ replay_answer book calls (length buffer)) × (buffer ≡ replay_numbers book calls buffer)
   unfolding replay_answer replay_numbers
-  replay_refused calls n e h = (rw (← e, ne_eqb n 0 h), rw (← e, ne_eqb n 0 h))
+  replay_refused calls r e =
+      let refused = outcome_refused _ _ r (sym e) in
+      (rw (ne_eqb (open_refusal book (length buffer)) 0 refused.0, refused.1), rw (ne_eqb (open_refusal book (length buffer)) 0 refused.0))
 
   pub replay_numbers_lem : (calls : List Call) (opened now : List ℕ) → 0 ≡ open_refusal book (length buffer) → opened ≡ open_numbers book buffer
       → now ≡ played_numbers book opened calls → now ≡ replay_numbers book calls buffer
@@ -93,7 +101,7 @@ module _ (book buffer : List ℕ) where
   replay_numbers_lem calls opened now e o is = is ∙ rw (← e) (ap (λ (n : List ℕ). played_numbers book n calls) o)
 
   pub replay_done : (calls : List Call) (now : List ℕ) → 0 ≡ open_refusal book (length buffer) → now ≡ replay_numbers book calls buffer
-      → (head_answer now 0 ≡ replay_answer book calls (length buffer)) × (trail_at ≤ length now)
+      → (Ok (head_answer now 0) ≡ replay_answer book calls (length buffer)) × (trail_at ≤ length now)
   unfolding replay_answer
   replay_done calls now e is =
       let well : well_formed book ≡ true = (open_accepted book buffer (sym e)).well in
@@ -101,4 +109,4 @@ module _ (book buffer : List ℕ) where
       let run : Run = reference (formula_of book) calls in
       let front : now ≡ encode (formula_of book) run ++ drop (required_length (variables_of book) (length (formula_of book).clauses)) buffer = is ∙ overwritten_is book buffer calls (sym e) in
       let e' : Encodes (formula_of book) now run = rw front (encode_encodes (formula_of book) s run (reference_valid (formula_of book) s calls) (drop (required_length (variables_of book) (length (formula_of book).clauses)) buffer)) in
-      (rw (← e) (head_answer_lem (formula_of book) now run 0 e'), omega (arith, e'.long))
+      (rw (← e) (ap Ok (head_answer_lem (formula_of book) now run 0 e')), omega (arith, e'.long))

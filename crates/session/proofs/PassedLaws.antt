@@ -1,4 +1,5 @@
 -- A session that passes: 11 and 12 come first, and what is read in its numbers is what the run that it holds has.
+use Rattle.std.specs.Prelude.{Ok}
 use Rattle.layout.specs.Layout.{Fits, TrailFits, SessionFits, length_at, decisions_at, conflict_at, backtracks_at, fixed_at, trail_at, required_length, checks_at, held, value_slot, level_before}
 use Rattle.book.specs.Formula.{max_variables, max_clauses, variable_of}
 use Rattle.layout.proofs.FitsLaws.{held_fits, session_fits, session_trail_fits}
@@ -34,9 +35,6 @@ use Rattle.book.proofs.SoundLaws.{literal_parts}
 use Rattle.run.proofs.Trails.{true_place, place_within}
 use Rattle.base.proofs.Tables.{get_or-table, length-table}
 use Rattle.validation.proofs.PassLaws.{passes_encodes}
-use Rattle.session.specs.declared.Shown.TheVariants as shown
-use Rattle.session.specs.declared.Count.TheVariants as count
-use Rattle.session.specs.declared.Sum.TheVariants as total
 
 -- numbers 11 and 12
 module _ (book session : List ℕ) where
@@ -164,7 +162,7 @@ module _ (book session : List ℕ) where
     pub fixed_are : get_or session fixed_at 0 ≡ (held (formula_of book) session).fixed
     fixed_are = facts.1.fixed
 
-    pub figures_are : shown.Of (get_or session decisions_at 0) (get_or session backtracks_at 0) (get_or session length_at 0) (get_or session conflict_at 0) ≡ figures_answer book session
+    pub figures_are : Ok (record { decisions = get_or session decisions_at 0; backtracks = get_or session backtracks_at 0; trail = get_or session length_at 0; conflict = get_or session conflict_at 0 }) ≡ figures_answer book session
     unfolding figures_answer
     figures_are = rw (← none, conflict_is, decisions_are, count_is, backtracks_are)
 
@@ -182,12 +180,12 @@ module _ (book session : List ℕ) where
     pub few_clauses : clauses_of book ≤ max_clauses
     few_clauses = (well_formed_limited book well).clauses
 
-    pub total_is : (n : ℕ) → n ≡ sum (held (formula_of book) session).checks → total.Checks n ≡ total_answer book session
+    pub total_is : (n : ℕ) → n ≡ sum (held (formula_of book) session).checks → Ok n ≡ total_answer book session
     unfolding total_answer
     total_is n e = rw (← none, e)
 
     pub copy_is : (part : Run → List ℕ) (source out now : List ℕ) (n : ℕ) → source ≡ part (held (formula_of book) session) → n ≡ length source → now ≡ copied source out
-        → (count.Of n ≡ copy_answer book session part) × (now ≡ copy_numbers book session part out)
+        → (Ok n ≡ copy_answer book session part) × (now ≡ copy_numbers book session part out)
     unfolding copy_answer copy_numbers
     copy_is part source out now n p l e = (rw (← none, l, p), rw (← none, e, p))
 

@@ -1,4 +1,7 @@
 -- What an accepted opening and an accepted decision report, by the run that they lead to.
+use Rattle.std.specs.Prelude.{Result, Ok}
+use Rattle.refusals.specs.declared.Refusal.{Refusal}
+use Rattle.session.specs.declared.Propagated.{Propagated}
 use Prim.Native.Nat.{ℕ, zero, suc, ◌+◌, ◌-◌, ◌≤◌, ◌<◌}
 use native.Mathlib.Omega.{arith}
 use mathlib.Core.Bool.{Bool, true, false, cond}
@@ -25,7 +28,7 @@ use Rattle.run.proofs.Theorems.{open_valid, decide_valid, assigned_is_closure, c
 use Rattle.layout.proofs.TrailLaws.{at_place}
 use Rattle.session.specs.Outcomes.{propagated_answer}
 use Rattle.session.specs.Statement.{Reported}
-use Rattle.session.specs.declared.Answer.TheVariants.{Implied, Conflict}
+use Rattle.session.specs.declared.Propagated.TheVariants.{Implied, Conflict}
 
 -- the literals behind the first so many of a trail are those with a later place
 length_behind : (run : Run) (before : ℕ) → length (trail_behind before run) ≡ length run.trail - before
@@ -76,24 +79,24 @@ module _ (book : List ℕ) (s : sound (formula_of book) ≡ true) (run : Run) (v
   both_ways_lem : (in_conflict run ≡ true) ↔ BothWays (Closure formula ds)
   both_ways_lem = rw (← in-force) (conflict_is_both_ways formula run s valid)
 
-  loud : (name : ℕ) → propagated_answer before run ≡ Conflict name → (in_conflict run ≡ true) × (run.conflict ≡ name)
+  loud : (name : ℕ) → ◌≡◌ {A = Result Propagated Refusal} (Ok (propagated_answer before run)) (Ok (Conflict name)) → (in_conflict run ≡ true) × (run.conflict ≡ name)
   unfolding propagated_answer
   loud name e = go (in_conflict run) refl e
     where
-      go : (b : Bool) → in_conflict run ≡ b → cond b (Conflict run.conflict) (Implied (length run.trail - before)) ≡ Conflict name
+      go : (b : Bool) → in_conflict run ≡ b → ◌≡◌ {A = Result Propagated Refusal} (Ok (cond b (Conflict run.conflict) (Implied (length run.trail - before)))) (Ok (Conflict name))
           → (in_conflict run ≡ true) × (run.conflict ≡ name)
       go true p q = (p, cc)
       go false p q = let z : ◌≡◌ {A = ℕ} 0 1 = cc in absurd (omega arith)
 
-  answers_conflict : in_conflict run ≡ true → propagated_answer before run ≡ Conflict run.conflict
+  answers_conflict : in_conflict run ≡ true → ◌≡◌ {A = Result Propagated Refusal} (Ok (propagated_answer before run)) (Ok (Conflict run.conflict))
   unfolding propagated_answer
   answers_conflict e = rw e
 
-  answers_implied : in_conflict run ≡ false → propagated_answer before run ≡ Implied (length run.trail - before)
+  answers_implied : in_conflict run ≡ false → ◌≡◌ {A = Result Propagated Refusal} (Ok (propagated_answer before run)) (Ok (Implied (length run.trail - before)))
   unfolding propagated_answer
   answers_implied e = rw e
 
-  pub reported : Reported (formula_of book) ds Before run (propagated_answer before run)
+  pub reported : Reported (formula_of book) ds Before run (Ok (propagated_answer before run))
   reported =
       record {
         conflicts = (λ k. both_ways_lem.0 (loud k.0 k.1).0, λ b. (run.conflict, answers_conflict (both_ways_lem.1 b)));
@@ -110,7 +113,7 @@ module _ (book : List ℕ) (s : sound (formula_of book) ≡ true) (run : Run) (v
       same_place = omega arith
 
       otherwise : in_conflict run ≡ false
-          → (n : ℕ) × (propagated_answer before run ≡ Implied n)
+          → (n : ℕ) × (◌≡◌ {A = Result Propagated Refusal} (Ok (propagated_answer before run)) (Ok (Implied n)))
           × (length (trail_behind (length run.trail - n) run) ≡ n)
           × (distinct (trail_behind (length run.trail - n) run) ≡ true)
           × ((l : ℕ) → (member l (trail_behind (length run.trail - n) run) ≡ true) ↔ (Closure formula ds l × (Before l → ⊥)))
@@ -129,7 +132,7 @@ module _ (book : List ℕ) (s : sound (formula_of book) ≡ true) (run : Run) (v
           closed e l = rw (← in-force) (assigned_is_closure formula run s valid (out_quiet run e) l)
 
 module _ (book : List ℕ) (s : sound (formula_of book) ≡ true) where
-  pub open_run_reported : Reported (formula_of book) [] (λ l. ⊥) (open_run (formula_of book)) (propagated_answer 0 (open_run (formula_of book)))
+  pub open_run_reported : Reported (formula_of book) [] (λ l. ⊥) (open_run (formula_of book)) (Ok (propagated_answer 0 (open_run (formula_of book))))
   open_run_reported =
       let run : Run = open_run (formula_of book) in
       reported book s run (open_valid (formula_of book) s) [] (open_undecided (formula_of book)) 0 (omega arith) (λ l. ⊥)
@@ -137,7 +140,7 @@ module _ (book : List ℕ) (s : sound (formula_of book) ≡ true) where
 
   pub decide_run_reported : (l : ℕ) (run : Run) → Valid (formula_of book) run → decide_refusal (formula_of book) l run ≡ 0
       → Reported (formula_of book) (l ∷ decisions run.trail) (λ m. (m ≡ l) ⊎ Closure (formula_of book) (decisions run.trail) m)
-      (decide (formula_of book) l run) (propagated_answer (suc (length run.trail)) (decide (formula_of book) l run))
+      (decide (formula_of book) l run) (Ok (propagated_answer (suc (length run.trail)) (decide (formula_of book) l run)))
   decide_run_reported l run valid z =
       let next = decide_valid (formula_of book) l run s valid z in
       reported book s (decide (formula_of book) l run) next (l ∷ decisions run.trail) (decide_decisions (formula_of book) l run)

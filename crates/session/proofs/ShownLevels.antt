@@ -1,4 +1,5 @@
 -- The level that lookup carries: at most the decisions in force and 500, a decision's own, 0 after an opening, and what a call leaves of it.
+use Rattle.std.specs.Prelude.{Ok}
 use Prim.Native.Nat.{ℕ, ◌-◌, ◌≤◌, ◌<◌}
 use native.Mathlib.Omega.{arith}
 use mathlib.Core.Path.{◌≡◌, ap, sym, ◌∙◌}
@@ -33,7 +34,7 @@ module _ (book session : List ℕ) where
   run = held (formula_of book) session
 
   -- Of any numbers: the level that lookup answers is at most the decisions in force, and at most 500.
-  pub lookup_level_within : (v n : ℕ) → (lookup_answer book session v ≡ Positive n) ⊎ (lookup_answer book session v ≡ Negative n)
+  pub lookup_level_within : (v n : ℕ) → (lookup_answer book session v ≡ Ok (Positive n)) ⊎ (lookup_answer book session v ≡ Ok (Negative n))
       → (n ≤ length (decisions run.trail)) × (n ≤ 500)
   lookup_level_within v n a =
       ⊎_elim (λ p. let shown = positive_shown book session v n p in bounds (positive v) shown.0 shown.1.1)
@@ -57,7 +58,7 @@ module _ (book session : List ℕ) where
         omega (arith, decision_level run.trail (facts book session (sym e)).0.trail_distinct (length (decisions run.trail) - n) (omega arith))
 
     pub decision_shown : (v : ℕ)
-        → (nth ≡ positive v → lookup_answer book session v ≡ Positive n) × (nth ≡ negative v → lookup_answer book session v ≡ Negative n)
+        → (nth ≡ positive v → lookup_answer book session v ≡ Ok (Positive n)) × (nth ≡ negative v → lookup_answer book session v ≡ Ok (Negative n))
     decision_shown v =
         let bounds = true_within book session (sym e) nth nth-true in (
           λ p. (shows_positive book session (sym e) v (omega arith) (omega arith) n).1 (rw p at nth-true, rw p at nth-level),
@@ -136,7 +137,7 @@ module _ (book session : List ℕ) where
 
 -- After an accepted opening lookup shows every variable as open or at level 0, whatever was lent.
 pub opening_level : (book buffer : List ℕ) → open_refusal book (length buffer) ≡ 0 → (v n : ℕ)
-    → (lookup_answer book (open_numbers book buffer) v ≡ Positive n) ⊎ (lookup_answer book (open_numbers book buffer) v ≡ Negative n) → n ≡ 0
+    → (lookup_answer book (open_numbers book buffer) v ≡ Ok (Positive n)) ⊎ (lookup_answer book (open_numbers book buffer) v ≡ Ok (Negative n)) → n ≡ 0
 opening_level book buffer e v n a =
     let within = (lookup_level_within book (open_numbers book buffer) v n a).0 in
     let undecided : length (decisions (held (formula_of book) (open_numbers book buffer)).trail) ≡ 0 =

@@ -1,4 +1,6 @@
 -- Statements 2 and 3 of the service description, proved of the outcomes that the contracts cite.
+use Rattle.std.specs.Prelude.{Ok}
+use Rattle.refusals.specs.Refusals.{outcome}
 use Prim.Native.Nat.{ℕ, suc, ◌≤◌, ◌<◌}
 use mathlib.Core.Path.{◌≡◌, refl, ap, sym, ◌∙◌}
 use mathlib.Core.Bool.{Bool, true, false, cond}
@@ -17,12 +19,10 @@ use Rattle.run.specs.Valid.{Valid}
 use Rattle.run.proofs.Theorems.{open_valid, decide_valid, backtrack_valid, step_valid, reference_valid, assigned_is_closure, conflict_is_both_ways, conflict_clause_false, always_met_idle, always_met_never_named, backtrack_keeps, nothing_open_all_met}
 use Rattle.run.proofs.Ceiling.{ceiling_in_period, ceiling_in_all, checks_by_period, counts_never_saturate, unscanned_cost_nothing, unscanned_count}
 use Rattle.layout.specs.Layout.{required_length, max_session, held}
-use Rattle.session.specs.Outcomes.{outcome, count_of, overwritten, required_answer, total_answer, fixed_answer, open_answer, open_numbers, open_refusal, session_decide_refusal, decide_answer, decide_numbers, backtrack_numbers, lookup_answer, call_numbers, replay_numbers}
+use Rattle.session.specs.Outcomes.{overwritten, required_answer, total_answer, fixed_answer, open_answer, open_numbers, open_refusal, session_decide_refusal, decide_answer, decide_numbers, backtrack_numbers, lookup_answer, call_numbers, replay_numbers}
 use Rattle.validation.specs.Validation.{read_refusal}
 use Rattle.session.specs.Statement.{Statement2, OpenReported, DecideReported, Replayed}
-use Rattle.session.specs.declared.Sum.TheVariants.{Checks}
 use Rattle.session.specs.declared.Assigned.TheVariants.{Open}
-use Rattle.session.specs.declared.Count.TheVariants.{Of}
 use Rattle.layout.proofs.FitsLaws.{required_most}
 use Rattle.layout.proofs.EncodeLaws.{encodes_whole}
 use Rattle.session.proofs.CallLaws.{held_overwritten, passes_overwritten, call_refusal_lem, call_numbers_lem, open_accepted, replayed}
@@ -123,13 +123,13 @@ module _ (book session : List ℕ) (e : read_refusal book session ≡ 0) where
       ∙ unscanned_count (formula_of book) (well_formed_sound book ok) run valid (call ∷ []) c few
 
 total_after : (book buffer : List ℕ) → well_formed book ≡ true → (run : Run) → Valid (formula_of book) run
-    → total_answer book (overwritten (formula_of book) run buffer) ≡ Checks (sum run.checks)
+    → total_answer book (overwritten (formula_of book) run buffer) ≡ Ok (sum run.checks)
 unfolding total_answer read_refusal
 total_after book buffer well run valid =
     rw (call_refusal_lem book buffer well run valid (λ (r : Run). 0), held_overwritten book buffer well run valid)
 
 pub fixed_after : (book buffer : List ℕ) → well_formed book ≡ true → (run : Run) → Valid (formula_of book) run
-    → fixed_answer book (overwritten (formula_of book) run buffer) ≡ Of run.fixed
+    → fixed_answer book (overwritten (formula_of book) run buffer) ≡ Ok run.fixed
 unfolding fixed_answer read_refusal
 fixed_after book buffer well run valid =
     rw (call_refusal_lem book buffer well run valid (λ (r : Run). 0), held_overwritten book buffer well run valid)
@@ -168,18 +168,18 @@ module _ (book session : List ℕ) (l : ℕ) (e : session_decide_refusal book se
 
 -- Out of conflict, where lookup answers open for no variable, every clause is met.
 pub nothing_open_met : (book session : List ℕ) → read_refusal book session ≡ 0 → (held (formula_of book) session).conflict ≡ 0
-    → ((x : ℕ) → 1 ≤ x → x ≤ variables_of book → lookup_answer book session x ≡ Open → ⊥)
+    → ((x : ℕ) → 1 ≤ x → x ≤ variables_of book → lookup_answer book session x ≡ Ok Open → ⊥)
     → (c : ℕ) → c < length (formula_of book).clauses → is_met (held (formula_of book) session).trail (clause_of (formula_of book) c) ≡ true
 nothing_open_met book session e quiet none_open =
     nothing_open_all_met (formula_of book) (held (formula_of book) session) (well_formed_sound book (well book session (sym e))) (facts book session (sym e)).0 quiet
     (λ x low high. shown_assigned book session (sym e) x low high (none_open x low high))
 
 -- The required length is at most `max_session`, and the paper allows 14,000; so many numbers suffice for every book.
-pub required_within : (book : List ℕ) (n : ℕ) → required_answer book ≡ Of n → (n ≤ max_session) × (max_session ≤ 14000)
+pub required_within : (book : List ℕ) (n : ℕ) → required_answer book ≡ Ok n → (n ≤ max_session) × (max_session ≤ 14000)
 unfolding required_answer
 required_within book n e = (go (well_formed book) refl e, omega arith)
   where
-    go : (w : Bool) → well_formed book ≡ w → count_of (outcome (cond w 0 11) (required_length (variables_of book) (clauses_of book))) ≡ Of n → n ≤ max_session
+    go : (w : Bool) → well_formed book ≡ w → outcome (cond w 0 11) (required_length (variables_of book) (clauses_of book)) ≡ Ok n → n ≤ max_session
     go true p q = let is : required_length (variables_of book) (clauses_of book) ≡ n = cc in omega (arith, required_most book p)
     go false p q = let z : ◌≡◌ {A = ℕ} 0 1 = cc in absurd (omega arith)
 

@@ -1,4 +1,5 @@
 -- What is settled and reported on a book that was read from a text: by the closure of the text as read, and as written.
+use Rattle.std.specs.Prelude.{Ok}
 use Prim.Native.Nat.{ℕ, ◌-◌, ◌≤◌, ◌<◌}
 use native.Mathlib.Omega.{arith}
 use mathlib.Core.Bool.{true, false}
@@ -80,8 +81,8 @@ module _ (text buffer : List ℕ) (formula : Formula) (h : read_text text ≡ ac
 
     -- Out of conflict lookup answers positive, or negative, at some level exactly if that literal of the variable is in the closure of the decisions in force.
     pub text_closure : run.conflict ≡ 0 → (v : ℕ) → 1 ≤ v → v ≤ formula.variables
-        → (((n : ℕ) × (lookup_answer book session v ≡ Positive n)) ↔ Closure formula (decisions run.trail) (positive v))
-        × (((n : ℕ) × (lookup_answer book session v ≡ Negative n)) ↔ Closure formula (decisions run.trail) (negative v))
+        → (((n : ℕ) × (lookup_answer book session v ≡ Ok (Positive n))) ↔ Closure formula (decisions run.trail) (positive v))
+        × (((n : ℕ) × (lookup_answer book session v ≡ Ok (Negative n))) ↔ Closure formula (decisions run.trail) (negative v))
     text_closure quiet v low high =
         let still = ap (λ (f : Formula). (held f session).conflict) same ∙ quiet in
         let inside : v ≤ (formula_of book).variables = omega (arith, ap (λ (f : Formula). f.variables) same) in
@@ -90,18 +91,18 @@ module _ (text buffer : List ℕ) (formula : Formula) (h : read_text text ≡ ac
     -- The level tells since which decision, in conflict too; what is so since the n-th decision is shown at level n, out of conflict, and in conflict where a
     -- later decision is in force.
     pub text_since : (v n : ℕ)
-        → (lookup_answer book session v ≡ Positive n → Since formula run n (positive v))
-        × (lookup_answer book session v ≡ Negative n → Since formula run n (negative v))
+        → (lookup_answer book session v ≡ Ok (Positive n) → Since formula run n (positive v))
+        × (lookup_answer book session v ≡ Ok (Negative n) → Since formula run n (negative v))
     text_since v n = rw (← same) (settled.since_positive v n, settled.since_negative v n)
 
     pub text_at_level : (v n : ℕ) → (run.conflict ≡ 0) ⊎ (n < length (decisions run.trail))
-        → (Since formula run n (positive v) → lookup_answer book session v ≡ Positive n)
-        × (Since formula run n (negative v) → lookup_answer book session v ≡ Negative n)
+        → (Since formula run n (positive v) → lookup_answer book session v ≡ Ok (Positive n))
+        × (Since formula run n (negative v) → lookup_answer book session v ≡ Ok (Negative n))
     text_at_level v n =
         subst
         (λ (f : Formula). ((held f session).conflict ≡ 0) ⊎ (n < length (decisions (held f session).trail))
-        → (Since f (held f session) n (positive v) → lookup_answer book session v ≡ Positive n)
-        × (Since f (held f session) n (negative v) → lookup_answer book session v ≡ Negative n))
+        → (Since f (held f session) n (positive v) → lookup_answer book session v ≡ Ok (Positive n))
+        × (Since f (held f session) n (negative v) → lookup_answer book session v ≡ Ok (Negative n)))
         same (λ known. (settled.at_level_positive v n known, settled.at_level_negative v n known))
 
     pub text_conflict : (in_conflict run ≡ true) ↔ BothWays (Closure formula (decisions run.trail))
@@ -115,8 +116,8 @@ module _ (text buffer : List ℕ) (formula : Formula) (h : read_text text ≡ ac
 
     -- Of the text as written this holds, too: what repeats in a clause, or stands both ways, changes neither what is settled and since when nor when there is a conflict.
     pub text_closure_written : run.conflict ≡ 0 → (v : ℕ) → 1 ≤ v → v ≤ formula.variables
-        → (((n : ℕ) × (lookup_answer book session v ≡ Positive n)) ↔ Closure written (decisions run.trail) (positive v))
-        × (((n : ℕ) × (lookup_answer book session v ≡ Negative n)) ↔ Closure written (decisions run.trail) (negative v))
+        → (((n : ℕ) × (lookup_answer book session v ≡ Ok (Positive n))) ↔ Closure written (decisions run.trail) (positive v))
+        × (((n : ℕ) × (lookup_answer book session v ≡ Ok (Negative n))) ↔ Closure written (decisions run.trail) (negative v))
     text_closure_written quiet v low high =
         let shown = text_closure quiet v low high in
         let none : BothWays (Closure formula (decisions run.trail)) → ⊥
@@ -141,14 +142,14 @@ module _ (text buffer : List ℕ) (formula : Formula) (h : read_text text ≡ ac
         consistently (inr fewer) (inr all) both = absurd (omega arith)
 
     pub text_since_written : (v n : ℕ)
-        → (lookup_answer book session v ≡ Positive n → Since written run n (positive v))
-        × (lookup_answer book session v ≡ Negative n → Since written run n (negative v))
+        → (lookup_answer book session v ≡ Ok (Positive n) → Since written run n (positive v))
+        × (lookup_answer book session v ≡ Ok (Negative n) → Since written run n (negative v))
     text_since_written v n = (
       λ a. as_written (positive v) ((text_since v n).0 a) (within (inl a)),
       λ a. as_written (negative v) ((text_since v n).1 a) (within (inr a)),
     )
       where
-        within : (lookup_answer book session v ≡ Positive n) ⊎ (lookup_answer book session v ≡ Negative n) → n ≤ length (decisions run.trail)
+        within : (lookup_answer book session v ≡ Ok (Positive n)) ⊎ (lookup_answer book session v ≡ Ok (Negative n)) → n ≤ length (decisions run.trail)
         within a = rw (← same) (lookup_level_within book session v n a).0
 
         as_written : (l : ℕ) → Since formula run n l → n ≤ length (decisions run.trail) → Since written run n l
@@ -159,8 +160,8 @@ module _ (text buffer : List ℕ) (formula : Formula) (h : read_text text ≡ ac
             }
 
     pub text_at_level_written : (v n : ℕ) → (run.conflict ≡ 0) ⊎ (n < length (decisions run.trail))
-        → (Since written run n (positive v) → lookup_answer book session v ≡ Positive n)
-        × (Since written run n (negative v) → lookup_answer book session v ≡ Negative n)
+        → (Since written run n (positive v) → lookup_answer book session v ≡ Ok (Positive n))
+        × (Since written run n (negative v) → lookup_answer book session v ≡ Ok (Negative n))
     text_at_level_written v n known = (
       λ since. (text_at_level v n known).0 (as_read (positive v) since),
       λ since. (text_at_level v n known).1 (as_read (negative v) since),

@@ -1,5 +1,5 @@
 -- The outcomes of the calls: for each, its answer and the lent numbers afterwards. The refusal numbers are those of document 01's table.
-use Rattle.std.specs.Prelude.{ℕ, suc, ◌-◌, cond, ◌&&◌, List, [], ◌∷◌, ◌++◌, leb, ltb, eqb, length, drop}
+use Rattle.std.specs.Prelude.{ℕ, suc, ◌-◌, cond, ◌&&◌, List, [], ◌∷◌, ◌++◌, leb, ltb, eqb, length, drop, Result, Ok, Err, ⊤}
 use Rattle.base.specs.Lists.{sum, copied}
 use Rattle.book.specs.Formula.{Formula, positive, negative}
 use Rattle.book.specs.Numbers.{variables_of, clauses_of, well_formed, formula_of}
@@ -8,78 +8,61 @@ use Rattle.run.specs.Run.{Run, in_conflict, open_run, decide, backtrack, fix}
 use Rattle.run.specs.Calls.{Call, decision, backtrack_by, fix_by, decide_refusal, backtrack_refusal, fix_refusal, reference}
 use Rattle.layout.specs.Layout.{required_length, encode, held}
 use Rattle.validation.specs.Validation.{call_refusal, read_refusal}
-use Rattle.session.specs.declared.Answer.{Answer}
-use Rattle.session.specs.declared.Answer.TheVariants as answer
-use Rattle.session.specs.declared.Back.{Back}
-use Rattle.session.specs.declared.Back.TheVariants as back
+use Rattle.refusals.specs.declared.Refusal.{Refusal}
+use Rattle.refusals.specs.Refusals.{outcome}
+use Rattle.session.specs.declared.Propagated.{Propagated}
+use Rattle.session.specs.declared.Propagated.TheVariants as propagated
 use Rattle.session.specs.declared.Assigned.{Assigned}
 use Rattle.session.specs.declared.Assigned.TheVariants as assigned
-use Rattle.session.specs.declared.Sum.{Sum}
-use Rattle.session.specs.declared.Sum.TheVariants as total
 use Rattle.session.specs.declared.Shown.{Shown}
-use Rattle.session.specs.declared.Shown.TheVariants as shown
-use Rattle.session.specs.declared.Count.{Count}
-use Rattle.session.specs.declared.Count.TheVariants as count
 
--- What a call comes to: the table refuses it by a number, or it is accepted, with what it then speaks of.
-pub data Outcome (A : Type 0) : Type 0 where
-  refused : ℕ → Outcome A
-  accepted : A → Outcome A
+-- Opening and decision: the conflict clause's name (the rule of `open rule R` and `choose F rule R`), or how many literals the call implied
+-- (the paper's forced), those on the trail behind the first so many; or the refusal.
+unfoldable pub propagated_answer : ℕ → Run → Propagated
+propagated_answer before run = cond (in_conflict run) (propagated.Conflict run.conflict) (propagated.Implied (length run.trail - before))
 
--- by the refusal number, which is 0 where the call is accepted
-abbrev pub outcome : {A : Type 0} → ℕ → A → Outcome A
-outcome number said = cond (eqb number 0) (accepted said) (refused number)
+abbrev pub answer_of : ℕ → Result Run Refusal → Result Propagated Refusal
+answer_of before (Err refusal) = Err refusal
+answer_of before (Ok run) = Ok (propagated_answer before run)
 
--- Opening and decision: the refusal number; the conflict clause's name (the rule of `open rule R` and `choose F rule R`); or how many literals
--- the call implied (the paper's forced), those on the trail behind the first so many.
-unfoldable pub propagated_answer : ℕ → Run → Answer
-propagated_answer before run = cond (in_conflict run) (answer.Conflict run.conflict) (answer.Implied (length run.trail - before))
+-- Backtrack and fixing: done, or the refusal.
+abbrev pub back_of : Result Run Refusal → Result ⊤ Refusal
+back_of (Err refusal) = Err refusal
+back_of (Ok run) = Ok tt
 
-abbrev pub answer_of : ℕ → Outcome Run → Answer
-answer_of before (refused number) = answer.Refused number
-answer_of before (accepted run) = propagated_answer before run
-
--- Backtrack and fixing: the refusal number, or done.
-abbrev pub back_of : Outcome Run → Back
-back_of (refused number) = back.Refused number
-back_of (accepted run) = back.Done
-
--- Lookup: the refusal number; positive (the paper's wanted) where the variable's positive literal is true, negative (barred) where the
--- negative one is, each with that literal's level; else open.
-abbrev pub assigned_of : ℕ → Outcome Run → Assigned
-assigned_of v (refused number) = assigned.Refused number
-assigned_of v (accepted run) =
-    cond (is_true run.trail (positive v))
+-- Lookup: positive (the paper's wanted) where the variable's positive literal is true, negative (barred) where the negative one is, each with
+-- that literal's level; else open; or the refusal.
+abbrev pub assigned_of : ℕ → Result Run Refusal → Result Assigned Refusal
+assigned_of v (Err refusal) = Err refusal
+assigned_of v (Ok run) =
+    Ok
+    (cond (is_true run.trail (positive v))
     (assigned.Positive (level run.trail (positive v)))
-    (cond (is_true run.trail (negative v)) (assigned.Negative (level run.trail (negative v))) assigned.Open)
+    (cond (is_true run.trail (negative v)) (assigned.Negative (level run.trail (negative v))) assigned.Open))
 
--- The total: the refusal number, or the sum of all counts of checks.
-abbrev pub sum_of : Outcome Run → Sum
-sum_of (refused number) = total.Refused number
-sum_of (accepted run) = total.Checks (sum run.checks)
+-- The total: the sum of all counts of checks, or the refusal.
+abbrev pub sum_of : Result Run Refusal → Result ℕ Refusal
+sum_of (Err refusal) = Err refusal
+sum_of (Ok run) = Ok (sum run.checks)
 
--- The figures: the refusal number, or decisions in force, accepted backtracks, trail length, and the conflict clause's name (0 out of conflict).
-abbrev pub shown_of : Outcome Run → Shown
-shown_of (refused number) = shown.Refused number
-shown_of (accepted run) = shown.Of (length (decisions run.trail)) run.backtracks (length run.trail) run.conflict
-
--- Required length, copies and fixed decisions: the refusal number, or how many there are.
-abbrev pub count_of : Outcome ℕ → Count
-count_of (refused number) = count.Refused number
-count_of (accepted n) = count.Of n
+-- The figures: decisions in force, accepted backtracks, trail length, and the conflict clause's name (0 out of conflict); or the refusal.
+abbrev pub shown_of : Result Run Refusal → Result Shown Refusal
+shown_of (Err refusal) = Err refusal
+shown_of (Ok run) =
+    Ok (record { decisions = length (decisions run.trail); backtracks = run.backtracks; trail = length run.trail; conflict = run.conflict })
 
 -- The lent numbers afterwards: those of a run, followed by what lay behind the required length; a refusal changes nothing.
 unfoldable pub overwritten : Formula → Run → List ℕ → List ℕ
 overwritten formula run buffer = encode formula run ++ drop (required_length formula.variables (length formula.clauses)) buffer
 
-abbrev pub session_after : Formula → List ℕ → Outcome Run → List ℕ
-session_after formula buffer (refused number) = buffer
-session_after formula buffer (accepted run) = overwritten formula run buffer
+abbrev pub session_after : Formula → List ℕ → Result Run Refusal → List ℕ
+session_after formula buffer (Err refusal) = buffer
+session_after formula buffer (Ok run) = overwritten formula run buffer
 
 -- A copy's numbers afterwards: what fits is copied, and what lies behind stays; a refusal changes nothing.
-abbrev pub copy_after : List ℕ → Outcome (List ℕ) → List ℕ
-copy_after buffer (refused number) = buffer
-copy_after buffer (accepted part) = copied part buffer
+abbrev pub copy_after : List ℕ → Result (List ℕ) Refusal → List ℕ
+copy_after buffer (Err refusal) = buffer
+copy_after buffer (Ok part) = copied part buffer
 
 abbrev pub checks_of_run : Run → List ℕ
 checks_of_run run = run.checks
@@ -97,14 +80,14 @@ module _ (book : List ℕ) where
   formula = formula_of book
 
   -- The required length of a session.
-  unfoldable pub required_answer : Count
-  required_answer = count_of (outcome (cond (well_formed book) 0 11) (required_length (variables_of book) (clauses_of book)))
+  unfoldable pub required_answer : Result ℕ Refusal
+  required_answer = outcome (cond (well_formed book) 0 11) (required_length (variables_of book) (clauses_of book))
 
   -- Opening: 11, then 10; 0 where it is accepted.
   unfoldable pub open_refusal : ℕ → ℕ
   open_refusal room = cond (well_formed book) (cond (ltb room (required_length (variables_of book) (clauses_of book))) 10 0) 11
 
-  unfoldable pub open_answer : ℕ → Answer
+  unfoldable pub open_answer : ℕ → Result Propagated Refusal
   open_answer room = answer_of 0 (outcome (open_refusal room) (open_run formula))
 
   unfoldable pub open_numbers : List ℕ → List ℕ
@@ -119,7 +102,7 @@ module _ (book : List ℕ) where
     unfoldable pub session_decide_refusal : ℕ → ℕ
     session_decide_refusal l = call_refusal book session (decide_refusal formula l)
 
-    unfoldable pub decide_answer : ℕ → Answer
+    unfoldable pub decide_answer : ℕ → Result Propagated Refusal
     decide_answer l = answer_of (suc (length run.trail)) (outcome (session_decide_refusal l) (decide formula l run))
 
     unfoldable pub decide_numbers : ℕ → List ℕ
@@ -129,7 +112,7 @@ module _ (book : List ℕ) where
     unfoldable pub session_backtrack_refusal : ℕ → ℕ
     session_backtrack_refusal k = call_refusal book session (backtrack_refusal k)
 
-    unfoldable pub backtrack_answer : ℕ → Back
+    unfoldable pub backtrack_answer : ℕ → Result ⊤ Refusal
     backtrack_answer k = back_of (outcome (session_backtrack_refusal k) (backtrack k run))
 
     unfoldable pub backtrack_numbers : ℕ → List ℕ
@@ -139,7 +122,7 @@ module _ (book : List ℕ) where
     unfoldable pub session_fix_refusal : ℕ → ℕ
     session_fix_refusal f = call_refusal book session (fix_refusal f)
 
-    unfoldable pub fix_answer : ℕ → Back
+    unfoldable pub fix_answer : ℕ → Result ⊤ Refusal
     fix_answer f = back_of (outcome (session_fix_refusal f) (fix f run))
 
     unfoldable pub fix_numbers : ℕ → List ℕ
@@ -149,22 +132,22 @@ module _ (book : List ℕ) where
     unfoldable pub lookup_refusal : ℕ → ℕ
     lookup_refusal v = call_refusal book session (λ (r : Run). cond (leb 1 v && leb v formula.variables) 0 13)
 
-    unfoldable pub lookup_answer : ℕ → Assigned
+    unfoldable pub lookup_answer : ℕ → Result Assigned Refusal
     lookup_answer v = assigned_of v (outcome (lookup_refusal v) run)
 
     -- What only reads refuses by 11 and 12 alone.
-    unfoldable pub total_answer : Sum
+    unfoldable pub total_answer : Result ℕ Refusal
     total_answer = sum_of (outcome (read_refusal book session) run)
 
-    unfoldable pub figures_answer : Shown
+    unfoldable pub figures_answer : Result Shown Refusal
     figures_answer = shown_of (outcome (read_refusal book session) run)
 
-    unfoldable pub fixed_answer : Count
-    fixed_answer = count_of (outcome (read_refusal book session) run.fixed)
+    unfoldable pub fixed_answer : Result ℕ Refusal
+    fixed_answer = outcome (read_refusal book session) run.fixed
 
     -- Copies of a part of the run: the answer says how many numbers it has.
-    unfoldable pub copy_answer : (Run → List ℕ) → Count
-    copy_answer part = count_of (outcome (read_refusal book session) (length (part run)))
+    unfoldable pub copy_answer : (Run → List ℕ) → Result ℕ Refusal
+    copy_answer part = outcome (read_refusal book session) (length (part run))
 
     unfoldable pub copy_numbers : (Run → List ℕ) → List ℕ → List ℕ
     copy_numbers part buffer = copy_after buffer (outcome (read_refusal book session) (part run))
@@ -181,7 +164,7 @@ module _ (book : List ℕ) where
   played_numbers session (call ∷ calls) = played_numbers (call_numbers session call) calls
 
   -- it answers as an opening does, of the run in the end: how many literals are on the trail, decisions among them
-  unfoldable pub replay_answer : List Call → ℕ → Answer
+  unfoldable pub replay_answer : List Call → ℕ → Result Propagated Refusal
   replay_answer calls room = answer_of 0 (outcome (open_refusal room) (reference formula calls))
 
   unfoldable pub replay_numbers : List Call → List ℕ → List ℕ

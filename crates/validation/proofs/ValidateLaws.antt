@@ -1,6 +1,7 @@
 -- The laws of src/lib.rt: the conditions of the parts together are those of a session that passes, and the refusal numbers 11 and 12.
 use Prim.Native.Nat.{ℕ, suc, ◌+◌, ◌*◌, ◌-◌, ◌≤◌, ◌<◌}
 use native.Mathlib.Omega.{arith}
+use Rattle.std.specs.Prelude.{Ok, Err}
 use mathlib.Core.Bool.{true, false}
 use mathlib.Core.List.{List}
 use mathlib.Core.Logic.{◌⊎◌, inl, inr, ⊎_elim}
@@ -17,6 +18,9 @@ use Rattle.run.proofs.Clauses.{clause_exists}
 use Rattle.run.proofs.Propagation.{valid_structure}
 use Rattle.run.proofs.Validity.{trail_short}
 use Rattle.layout.specs.Layout.{length_at, decisions_at, conflict_at, checks_at, SessionFits, required_length, held}
+use Rattle.refusals.specs.declared.Refusal.TheVariants as refusal
+use Rattle.refusals.proofs.OutcomeLaws.{accepted_as}
+use Rattle.refusals.specs.Refusals.{refusals, first_with, refusal_of, checked}
 use Rattle.validation.specs.Validation.{passes, call_refusal, read_refusal}
 use Rattle.layout.specs.Encodes.{Encodes}
 use Rattle.validation.specs.Inner.Header.{HeaderGood}
@@ -184,14 +188,17 @@ module _ (book numbers : List ℕ) (well : well_formed book ≡ true) where
 
 -- 11, then 12
 module _ (book session : List ℕ) where
-  pub read_eleven : well_formed book ≡ false → 11 ≡ read_refusal book session
-  unfolding read_refusal call_refusal
-  read_eleven e = rw e
+  pub no_book : well_formed book ≡ false → Err refusal.Book ≡ checked (read_refusal book session)
+  unfolding read_refusal call_refusal refusal_of first_with refusals
+  no_book e = rw e
 
-  pub read_twelve : well_formed book ≡ true → passes (formula_of book) session ≡ false → 12 ≡ read_refusal book session
-  unfolding read_refusal call_refusal
-  read_twelve e p = rw (e, p)
+  pub no_session : well_formed book ≡ true → passes (formula_of book) session ≡ false → Err refusal.Session ≡ checked (read_refusal book session)
+  unfolding read_refusal call_refusal refusal_of first_with refusals
+  no_session e p = rw (e, p)
 
   pub read_none : well_formed book ≡ true → passes (formula_of book) session ≡ true → 0 ≡ read_refusal book session
   unfolding read_refusal call_refusal
   read_none e p = rw (e, p)
+
+  pub validated : well_formed book ≡ true → passes (formula_of book) session ≡ true → Ok (tt {0}) ≡ checked (read_refusal book session)
+  validated e p = accepted_as (read_refusal book session) (tt {0}) (read_none e p)

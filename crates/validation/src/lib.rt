@@ -12,6 +12,7 @@ mod trail;
 ghost use Rattle.std.specs.Prelude.{◌≡◌, true, ◌≤◌, length};
 ghost use Rattle.book.specs.Numbers.{formula_of, well_formed};
 ghost use Rattle.layout.specs.Layout.{trail_at};
+ghost use Rattle.refusals.specs.Refusals.{checked};
 ghost use Rattle.validation.specs.Validation.{passes, read_refusal};
 ghost use Rattle.validation.specs.Inner.Header.{HeaderGood};
 ghost use Rattle.validation.specs.Inner.Says.{Says};
@@ -25,6 +26,7 @@ use crate::trail::trail_passes;
 use layout::limits::MAX_BACKTRACKS;
 use layout::offsets::{BACKTRACKS, CONFLICT, DECISIONS, FIXED, required_length};
 use layout::values::wide;
+use refusals::Refusal;
 
 // The header beside the trail's two numbers: the conflict clause, where one is named, is one of the book's, there are not too many backtracks,
 // and no more decisions are fixed than are in force.
@@ -79,15 +81,16 @@ fn session_passes(book: &[u32], session: &[u32]) -> bool
     fixpoint(book, session, true)
 }
 
-// The refusal number 11 or 12 of a session call, or 0.
-pub fn validate(book: &[u32], session: &[u32]) -> u32
-    ensures { result ≡ read_refusal book.now session.now }
+// Whether the numbers are those of a book and of a session on it: refused by 11 or 12 where they are not.
+#[tactic(auto, using(crate::proofs::ValidateLaws::no_book, crate::proofs::ValidateLaws::no_session, crate::proofs::ValidateLaws::validated))]
+pub fn validate(book: &[u32], session: &[u32]) -> Result<(), Refusal>
+    ensures { result ≡ checked (read_refusal book.now session.now) }
 {
     if !book::well_formed(book) {
-        return 11;
+        return Err(Refusal::Book);
     }
     if !session_passes(book, session) {
-        return 12;
+        return Err(Refusal::Session);
     }
-    0
+    Ok(())
 }

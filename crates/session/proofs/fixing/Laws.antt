@@ -1,4 +1,8 @@
 -- A fixing, way out by way out: the refusals in their order, and what an accepted one answers and leaves; and how many decisions are fixed.
+use Rattle.refusals.specs.declared.Refusal.{Refusal}
+use Rattle.refusals.specs.Refusals.{checked}
+use Rattle.refusals.proofs.OutcomeLaws.{outcome_refused}
+use Rattle.std.specs.Prelude.{Ok, Err}
 use Prim.Native.Nat.{ℕ, ◌≤◌, ◌<◌}
 use native.Mathlib.Omega.{arith}
 use mathlib.Core.Bool.{and-false, Bool, true, false, cond, ◌&&◌}
@@ -17,16 +21,10 @@ use Rattle.layout.specs.Layout.{decisions_at, conflict_at, fixed_at, held}
 use Rattle.validation.specs.Validation.{read_refusal}
 use Rattle.engine.specs.Engine.{Becomes, Holding}
 use Rattle.session.specs.Outcomes.{session_fix_refusal, fix_answer, fix_numbers, fixed_answer}
-use Rattle.session.specs.declared.Back.TheVariants as back
-use Rattle.session.specs.declared.Count.TheVariants as count
-use Rattle.session.proofs.PassedLaws.{refused_first, none_first, well, own_refusal, facts, holding, conflict_is, decisions_are, fixed_are}
+use Rattle.session.proofs.PassedLaws.{none_first, well, own_refusal, facts, holding, conflict_is, decisions_are, fixed_are}
 use Rattle.session.proofs.OpenLaws.{becomes_overwritten}
 
 module _ (book session : List ℕ) where
-  pub fix_refused_first : (f n : ℕ) → n ≡ read_refusal book session → (n ≡ 0 → ⊥) → n ≡ session_fix_refusal book session f
-  unfolding session_fix_refusal
-  fix_refused_first f = refused_first book session (fix_refusal f)
-
   module _ (none : 0 ≡ read_refusal book session) where
     pub fix_in_conflict : (f : ℕ) → (get_or session conflict_at 0 ≡ 0 → ⊥) → 14 ≡ session_fix_refusal book session f
     unfolding session_fix_refusal fix_refusal
@@ -61,18 +59,21 @@ module _ (book session : List ℕ) where
             le-leb f (length (decisions (held (formula_of book) session).trail)) (omega (arith, decisions_are book session none)),
           )))
 
-    pub fixed_is : count.Of (get_or session fixed_at 0) ≡ fixed_answer book session
+    pub fixed_is : Ok (get_or session fixed_at 0) ≡ fixed_answer book session
     unfolding fixed_answer
     fixed_is = rw (← none, fixed_are book session none)
 
-  pub fixed_refused : (n : ℕ) → n ≡ read_refusal book session → (n ≡ 0 → ⊥) → count.Refused n ≡ fixed_answer book session
+  pub fixed_refused : (r : Refusal) → Err r ≡ checked (read_refusal book session) → Err r ≡ fixed_answer book session
   unfolding fixed_answer
-  fixed_refused n e h = rw (← e, ne_eqb n 0 h)
+  fixed_refused r e = let refused = outcome_refused _ _ r (sym e) in rw (ne_eqb (read_refusal book session) 0 refused.0, refused.1)
 
   -- what a refused fixing answers and leaves
-  pub fix_refused : (f n : ℕ) → n ≡ session_fix_refusal book session f → (n ≡ 0 → ⊥) → (back.Refused n ≡ fix_answer book session f) × (session ≡ fix_numbers book session f)
+  pub fix_refused : (f : ℕ) (r : Refusal) → Err r ≡ checked (session_fix_refusal book session f)
+      → (Err r ≡ fix_answer book session f) × (session ≡ fix_numbers book session f)
   unfolding fix_answer fix_numbers
-  fix_refused f n e h = (rw (← e, ne_eqb n 0 h), rw (← e, ne_eqb n 0 h))
+  fix_refused f r e =
+      let refused = outcome_refused _ _ r (sym e) in
+      (rw (ne_eqb (session_fix_refusal book session f) 0 refused.0, refused.1), rw (ne_eqb (session_fix_refusal book session f) 0 refused.0))
 
   -- what an accepted one answers and leaves
   module _ (f : ℕ) (accepted : 0 ≡ session_fix_refusal book session f) where
@@ -88,7 +89,7 @@ module _ (book session : List ℕ) where
     fix_holding = holding book session fix_none
 
     pub fix_done : (now : List ℕ) → Becomes book session now (fix f (held (formula_of book) session))
-        → (back.Done ≡ fix_answer book session f) × (now ≡ fix_numbers book session f)
+        → (Ok tt ≡ fix_answer book session f) × (now ≡ fix_numbers book session f)
     unfolding fix_answer fix_numbers
     fix_done now b = (
       rw (← accepted),

@@ -1,15 +1,23 @@
-use mathlib.Core.Path.{sym, ◌∙◌}
+use Rattle.std.proofs.lemmas.Result.{err_from_is_err_and}
+use Rattle.refusals.proofs.OutcomeLaws.{passed}
+use mathlib.Core.Path.{sym, ◌∙◌, ap}
+use Rattle.std.specs.Prelude.{Ok}
 use native.Mathlib.Omega.{arith}
 use Rattle.session.proofs.CallLaws.{open_accepted}
 use Rattle.session.proofs.OpenLaws.{open_refused, open_done}
 use Rattle.session.proofs.open.Goals as goal
 
-pub returns-then-refused-ne0 : goal.returns-then-refused-ne0
-returns-then-refused-ne0 c = record { value = (open_refused c.args.book.now c.args.session.now _ c.open_refusal-refused.ensures c.if-refused-ne0.true).0; session_after = (open_refused c.args.book.now c.args.session.now _ c.open_refusal-refused.ensures c.if-refused-ne0.true).1 }
+pub returns-in_err-check_opening-clause-value : goal.returns-in_err-check_opening-clause-value
+returns-in_err-check_opening-clause-value c =
+    let p = err_from_is_err_and c.from_residual.result c.from_residual.ensures.1 in
+    rw (p.1, p.2) (open_refused c.args.book.now c.args.session.now _ c.in_err-check_opening.ensures).0
+
+pub returns-in_err-check_opening-clause-session_after : goal.returns-in_err-check_opening-clause-session_after
+returns-in_err-check_opening-clause-session_after c = (open_refused c.args.book.now c.args.session.now _ c.in_err-check_opening.ensures).1
 
 pub open-requires : goal.open-requires
 open-requires c =
-    open_accepted c.args.book.now c.args.session.now (sym (sym c.if-refused-ne0.false ∙ c.open_refusal-refused.ensures))
+    open_accepted c.args.book.now c.args.session.now (sym (passed _ _ c.in_ok-check_opening.ensures))
 
 pub answered-requires : goal.answered-requires
 answered-requires c = (omega (arith, c.open.ensures.encodes.long), omega arith)
@@ -19,5 +27,5 @@ shape_of-session c = c.open.ensures.same_length
 
 pub returns : goal.returns
 returns c =
-    let done = open_done c.args.book.now c.args.session.now _ (sym c.if-refused-ne0.false ∙ c.open_refusal-refused.ensures) c.open.ensures in
-    record { value = c.answered.ensures ∙ done.0; session_after = done.1 }
+    let done = open_done c.args.book.now c.args.session.now _ (passed _ _ c.in_ok-check_opening.ensures) c.open.ensures in
+    record { value = ap Ok c.answered.ensures ∙ done.0; session_after = done.1 }

@@ -1,3 +1,7 @@
+use Rattle.std.specs.Prelude.{Ok}
+use Rattle.refusals.proofs.OutcomeLaws.{outcome_refused}
+use Rattle.std.proofs.lemmas.Result.{err_from_is_err_and}
+use Rattle.refusals.proofs.OutcomeLaws.{passed}
 use mathlib.Core.Path.{◌≡◌, ap, sym, ◌∙◌}
 use native.Mathlib.Omega.{arith}
 use Prim.Native.Nat.{◌+◌}
@@ -10,17 +14,23 @@ use Rattle.session.proofs.ReplayLaws.{Replaying, replaying_none, replaying_decis
 use Rattle.session.proofs.replay.Goals as goal
 use Rattle.session.proofs.replay.Goals.{then-decides, else-decides+then-fixes, else-decides+else-fixes}
 
-pub open_refusal-refused-requires : goal.open_refusal-refused-requires
-open_refusal-refused-requires c = tt
+pub check_opening-requires : goal.check_opening-requires
+check_opening-requires c = tt
 
-pub returns-then-refused-ne0 : goal.returns-then-refused-ne0
-returns-then-refused-ne0 c =
-    let out = replay_refused c.args.book.now c.args.session.now (calls_of c.args.calls.now) _ c.open_refusal-refused.ensures c.if-refused-ne0.true in
-    record { value = out.0; session_after = out.1; replayed = λ z. absurd (c.if-refused-ne0.true (c.open_refusal-refused.ensures ∙ z)) }
+pub returns-in_err-check_opening-clause-value : goal.returns-in_err-check_opening-clause-value
+returns-in_err-check_opening-clause-value c =
+    let p = err_from_is_err_and c.from_residual.result c.from_residual.ensures.1 in
+    rw (p.1, p.2) (replay_refused c.args.book.now c.args.session.now (calls_of c.args.calls.now) _ c.in_err-check_opening.ensures).0
+
+pub returns-in_err-check_opening-clause-session_after : goal.returns-in_err-check_opening-clause-session_after
+returns-in_err-check_opening-clause-session_after c = (replay_refused c.args.book.now c.args.session.now (calls_of c.args.calls.now) _ c.in_err-check_opening.ensures).1
+
+pub returns-in_err-check_opening-clause-replayed : goal.returns-in_err-check_opening-clause-replayed
+returns-in_err-check_opening-clause-replayed c = λ z. absurd ((outcome_refused _ tt _ (sym c.in_err-check_opening.ensures)).0 z)
 
 pub open-requires : goal.open-requires
 open-requires c =
-    open_accepted c.args.book.now c.args.session.now (sym (sym c.if-refused-ne0.false ∙ c.open_refusal-refused.ensures))
+    open_accepted c.args.book.now c.args.session.now (sym (passed _ _ c.in_ok-check_opening.ensures))
 
 pub loop-i-init : goal.loop-i-init
 loop-i-init c = replaying_none c.args.book.now c.args.calls.now _
@@ -69,16 +79,16 @@ loop-i-preserved c =
 
 pub answered-requires : goal.answered-requires
 answered-requires c =
-    let finished : c.loop-i.session ≡ replay_numbers c.args.book.now (calls_of c.args.calls.now) c.args.session.now = replay_numbers_lem c.args.book.now c.args.session.now (calls_of c.args.calls.now) _ _ (sym c.if-refused-ne0.false ∙ c.open_refusal-refused.ensures) (open_done c.args.book.now c.args.session.now _ (sym c.if-refused-ne0.false ∙ c.open_refusal-refused.ensures) c.open.ensures).1
+    let finished : c.loop-i.session ≡ replay_numbers c.args.book.now (calls_of c.args.calls.now) c.args.session.now = replay_numbers_lem c.args.book.now c.args.session.now (calls_of c.args.calls.now) _ _ (passed _ _ c.in_ok-check_opening.ensures) (open_done c.args.book.now c.args.session.now _ (passed _ _ c.in_ok-check_opening.ensures) c.open.ensures).1
     (replaying_all c.args.book.now c.args.calls.now _ _ c.loop-i.i c.loop-i.invariant (omega (arith, c.loop-i-test.false))) in
-    ((replay_done c.args.book.now c.args.session.now (calls_of c.args.calls.now) _ (sym c.if-refused-ne0.false ∙ c.open_refusal-refused.ensures) (finished)).1, omega arith)
+    ((replay_done c.args.book.now c.args.session.now (calls_of c.args.calls.now) _ (passed _ _ c.in_ok-check_opening.ensures) (finished)).1, omega arith)
 
 pub shape_of-session : goal.shape_of-session
 shape_of-session c = c.loop-i.invariant.same_length ∙ c.open.ensures.same_length
 
 pub returns : goal.returns
 returns c =
-    let finished : c.loop-i.session ≡ replay_numbers c.args.book.now (calls_of c.args.calls.now) c.args.session.now = replay_numbers_lem c.args.book.now c.args.session.now (calls_of c.args.calls.now) _ _ (sym c.if-refused-ne0.false ∙ c.open_refusal-refused.ensures) (open_done c.args.book.now c.args.session.now _ (sym c.if-refused-ne0.false ∙ c.open_refusal-refused.ensures) c.open.ensures).1
+    let finished : c.loop-i.session ≡ replay_numbers c.args.book.now (calls_of c.args.calls.now) c.args.session.now = replay_numbers_lem c.args.book.now c.args.session.now (calls_of c.args.calls.now) _ _ (passed _ _ c.in_ok-check_opening.ensures) (open_done c.args.book.now c.args.session.now _ (passed _ _ c.in_ok-check_opening.ensures) c.open.ensures).1
     (replaying_all c.args.book.now c.args.calls.now _ _ c.loop-i.i c.loop-i.invariant (omega (arith, c.loop-i-test.false))) in
-    let done = replay_done c.args.book.now c.args.session.now (calls_of c.args.calls.now) _ (sym c.if-refused-ne0.false ∙ c.open_refusal-refused.ensures) (finished) in
-    record { value = c.answered.ensures ∙ done.0; session_after = finished; replayed = statement_3 c.args.book.now c.args.session.now (calls_of c.args.calls.now) _ (finished) }
+    let done = replay_done c.args.book.now c.args.session.now (calls_of c.args.calls.now) _ (passed _ _ c.in_ok-check_opening.ensures) (finished) in
+    record { value = ap Ok c.answered.ensures ∙ done.0; session_after = finished; replayed = statement_3 c.args.book.now c.args.session.now (calls_of c.args.calls.now) _ (finished) }

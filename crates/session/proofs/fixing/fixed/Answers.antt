@@ -1,28 +1,23 @@
-use Prim.Native.Nat.{ℕ}
-use mathlib.Core.List.{List}
-use mathlib.Core.Path.{sym, ◌∙◌, ◌≡◌}
+use Rattle.std.proofs.lemmas.Result.{err_from_is_err_and}
+use Rattle.refusals.proofs.OutcomeLaws.{passed}
+use mathlib.Core.Path.{◌≡◌}
 use native.Mathlib.Omega.{arith}
 use Rattle.validation.specs.Validation.{read_refusal}
 use Rattle.session.proofs.PassedLaws.{long}
 use Rattle.session.proofs.fixing.Laws.{fixed_is, fixed_refused}
 use Rattle.session.proofs.fixing.fixed.Goals as goal
 
-pub returns-then-refused-ne0 : goal.returns-then-refused-ne0
-returns-then-refused-ne0 c =
-    let book : List ℕ = c.args.book.now in
-    let session : List ℕ = c.args.session.now in
-    fixed_refused (book) (session) _ c.validate-refused.ensures c.if-refused-ne0.true
+pub returns-in_err-validate : goal.returns-in_err-validate
+returns-in_err-validate c =
+    let p = err_from_is_err_and c.from_residual.result c.from_residual.ensures.1 in
+    rw (p.1, p.2) (fixed_refused c.args.book.now c.args.session.now _ c.in_err-validate.ensures)
 
 pub bounds-session-4 : goal.bounds-session-4
 bounds-session-4 c =
-    let book : List ℕ = c.args.book.now in
-    let session : List ℕ = c.args.session.now in
-    let none : 0 ≡ read_refusal (book) (session) = sym c.if-refused-ne0.false ∙ c.validate-refused.ensures in
-    omega (arith, long (book) (session) (none))
+    let none : 0 ≡ read_refusal c.args.book.now c.args.session.now = passed _ _ c.in_ok-validate.ensures in
+    omega (arith, long c.args.book.now c.args.session.now (none))
 
 pub returns : goal.returns
 returns c =
-    let book : List ℕ = c.args.book.now in
-    let session : List ℕ = c.args.session.now in
-    let none : 0 ≡ read_refusal (book) (session) = sym c.if-refused-ne0.false ∙ c.validate-refused.ensures in
-    fixed_is (book) (session) (none)
+    let none : 0 ≡ read_refusal c.args.book.now c.args.session.now = passed _ _ c.in_ok-validate.ensures in
+    fixed_is c.args.book.now c.args.session.now (none)

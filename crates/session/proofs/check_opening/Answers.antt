@@ -1,3 +1,5 @@
+use Rattle.refusals.specs.declared.Refusal.TheVariants as refusal
+use Rattle.refusals.proofs.OutcomeLaws.{accepted_as, refused_as}
 use Prim.Native.Nat.{ℕ}
 use mathlib.Core.Bool.{true}
 use mathlib.Core.List.{List, []}
@@ -8,12 +10,12 @@ use Rattle.book.specs.Numbers.{variables_of, clauses_of, well_formed}
 use Rattle.book.proofs.WellFormedLaws.{well_formed_limited}
 use Rattle.layout.specs.Layout.{required_length}
 use Rattle.session.proofs.OpenLaws.{open_eleven, open_ten, open_none}
-use Rattle.session.proofs.open_refusal.Goals as goal
+use Rattle.session.proofs.check_opening.Goals as goal
 
 pub returns-then-not-well_formed : goal.returns-then-not-well_formed
 returns-then-not-well_formed c =
     let book : List ℕ = c.args.book.now in
-    open_eleven c.args.book.now [] c.args.room (sym c.well_formed-2.ensures ∙ not-true _ c.if-not-well_formed.true-raw)
+    refused_as _ tt refusal.Book (open_eleven c.args.book.now [] c.args.room (sym c.well_formed-2.ensures ∙ not-true _ c.if-not-well_formed.true-raw))
 
 pub required_length-requires : goal.required_length-requires
 required_length-requires c =
@@ -27,11 +29,11 @@ returns-then-room-required_length c =
     let book : List ℕ = c.args.book.now in
     let well : well_formed (book) ≡ true = sym c.well_formed-2.ensures ∙ not-false _ c.if-not-well_formed.false-raw in
     let length_is : c.required_length.result ≡ required_length (variables_of (book)) (clauses_of (book)) = c.required_length.ensures ∙ ap₂ required_length c.variables.ensures c.clauses.ensures in
-    open_ten (book) [] c.args.room (well) (omega (arith, length_is, c.if-room-required_length.true))
+    refused_as _ tt refusal.ShortMemory (open_ten (book) [] c.args.room (well) (omega (arith, length_is, c.if-room-required_length.true)))
 
 pub returns : goal.returns
 returns c =
     let book : List ℕ = c.args.book.now in
     let well : well_formed (book) ≡ true = sym c.well_formed-2.ensures ∙ not-false _ c.if-not-well_formed.false-raw in
     let length_is : c.required_length.result ≡ required_length (variables_of (book)) (clauses_of (book)) = c.required_length.ensures ∙ ap₂ required_length c.variables.ensures c.clauses.ensures in
-    open_none (book) [] c.args.room (well) (omega (arith, length_is, c.if-room-required_length.false))
+    accepted_as _ tt (open_none (book) [] c.args.room (well) (omega (arith, length_is, c.if-room-required_length.false)))
