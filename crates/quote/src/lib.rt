@@ -7,12 +7,10 @@ ghost use Rattle.quote.specs.Quote.{is_back, back_lines, quote_answer};
 
 use layout::ceiling::worst;
 use refusals::Refusal;
+use script::LINE_END;
 
 // The most lines of the form `b k` in a script that is quoted for (`max_back_lines`).
 const MAX_BACK_LINES: usize = 1_000_000;
-
-// The byte that ends a line.
-const LINE_END: u8 = b'\n';
 
 // What a quote tells: the session's length, W, how many lines of the form `b k` the script has, and the quoted ceiling.
 #[derive(Clone, Copy, Debug, PartialEq, Eq)]
