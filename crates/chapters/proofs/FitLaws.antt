@@ -1,29 +1,23 @@
 -- Chapters that fit, as the loop over the clauses meets them.
-use Prim.Native.Nat.{ℕ, ◌+◌, ◌≤◌, ◌<◌}
-use mathlib.Core.Path.{◌≡◌, sym}
+use Prim.Native.Nat.{ℕ, ◌≤◌, ◌<◌}
+use mathlib.Core.Path.{◌≡◌, refl, sym, ap}
 use mathlib.Core.Bool.{Bool, true, false, ◌&&◌}
-use mathlib.Core.List.{List}
-use mathlib.Core.Logic.{⊎_elim}
+use mathlib.Core.List.{List, [], ◌∷◌}
 use native.Mathlib.Omega.{arith}
 use borrow.Author.Tests.{le-leb, leb-true}
+use mathlib.Core.Bool.{and-true}
+use Rattle.std.specs.List.{list_all}
 use lib.Dec.{leb}
 use lib.ListN.{length, get_or, take}
 use lib.Seq.{length-take-le, get_or-take}
 use Rattle.base.specs.Lists.{all}
-use Rattle.base.proofs.Bools.{alike, and_parts, both, refuted}
+use Rattle.base.proofs.Bools.{and_parts, refuted}
 use Rattle.base.proofs.Lists.{all_at}
-use Rattle.base.proofs.ForAll.{all_places}
 use Rattle.chapters.specs.Chapters.{max_chapter, chapter_count, chapters_fit}
 
 -- none of the first i chapters is over 31
 abbrev pub Within : List ℕ → ℕ → Type 0
 Within chapters i = (j : ℕ) → j < i → get_or chapters j 0 ≤ max_chapter
-
-pub within_none : (chapters : List ℕ) → Within chapters 0
-within_none chapters j h = absurd (omega arith)
-
-pub within_more : (chapters : List ℕ) (i : ℕ) → Within chapters i → get_or chapters i 0 ≤ max_chapter → Within chapters (i + 1)
-within_more chapters i w fits j h = ⊎_elim (λ e. rw e fits) (λ other. w j (omega arith)) (alike j i)
 
 -- what `chapters_fit` says, as a record
 pub record Fit (clauses : ℕ) (chapters : List ℕ) (room : ℕ) : Type 0 where
@@ -31,21 +25,10 @@ pub record Fit (clauses : ℕ) (chapters : List ℕ) (room : ℕ) : Type 0 where
   pub within : Within chapters clauses
   pub roomy : chapter_count ≤ room
 
+abbrev pub low : ℕ → Bool
+low chapter = leb chapter max_chapter
+
 module _ (clauses : ℕ) (chapters : List ℕ) (room : ℕ) where
-  abbrev low : ℕ → Bool
-  low chapter = leb chapter max_chapter
-
-  pub fit_true : Fit clauses chapters room → chapters_fit clauses chapters room ≡ true
-  unfolding chapters_fit
-  fit_true f =
-      let front : length (take clauses chapters) ≡ clauses = length-take-le clauses chapters f.enough in
-      both
-      (both (le-leb clauses (length chapters) f.enough)
-      (all_places low (take clauses chapters) 0 (λ i h.
-      let below : i < clauses = omega (arith, front) in
-      le-leb (get_or (take clauses chapters) i 0) max_chapter (rw (get_or-take clauses chapters i 0 below) (f.within i below)))))
-      (le-leb chapter_count room f.roomy)
-
   pub true_fit : chapters_fit clauses chapters room ≡ true → Fit clauses chapters room
   unfolding chapters_fit
   true_fit e =
@@ -60,5 +43,16 @@ module _ (clauses : ℕ) (chapters : List ℕ) (room : ℕ) where
         roomy = leb-true chapter_count room parts.1;
       }
 
-  pub unfit : (Fit clauses chapters room → ⊥) → false ≡ chapters_fit clauses chapters room
-  unfit fails = sym (refuted (chapters_fit clauses chapters room) (λ e. fails (true_fit e)))
+low_all : (chapters : List ℕ) → list_all low chapters ≡ all low chapters
+unfolding all
+low_all [] = refl
+low_all (chapter ∷ chapters) = ap (λ (others : Bool). low chapter && others) (low_all chapters)
+
+-- the tests one after the other
+module _ (clauses : ℕ) (chapters : List ℕ) (room : ℕ) where
+  pub fit_by : chapter_count ≤ room → clauses ≤ length chapters → list_all low (take clauses chapters) ≡ chapters_fit clauses chapters room
+  unfolding chapters_fit
+  fit_by roomy enough = rw (le-leb clauses (length chapters) enough, le-leb chapter_count room roomy, and-true) (low_all (take clauses chapters))
+
+  pub few_unfit : (chapter_count ≤ room → length chapters < clauses) → false ≡ chapters_fit clauses chapters room
+  few_unfit few = sym (refuted (chapters_fit clauses chapters room) (λ e. let f = true_fit clauses chapters room e in omega (arith, f.roomy, f.enough, few f.roomy)))

@@ -1,12 +1,11 @@
 -- Request K6, checks by chapter: the total of each chapter, what the call answers, and the lent totals afterwards.
-use Rattle.std.specs.Prelude.{ℕ, ◌+◌, Bool, true, false, cond, ◌&&◌, List, [], ◌∷◌, ◌++◌, leb, eqb, length, take, drop}
+use Rattle.std.specs.Prelude.{ℕ, ◌+◌, Bool, true, false, cond, ◌&&◌, Result, Ok, Err, List, [], ◌∷◌, ◌++◌, leb, eqb, length, take, drop}
 use Rattle.base.specs.Lists.{all, table}
 use Rattle.book.specs.Numbers.{clauses_of, formula_of}
 use Rattle.layout.specs.Layout.{held}
 use Rattle.validation.specs.Validation.{read_refusal}
-use Rattle.session.specs.Outcomes.{Outcome, refused, accepted, outcome}
-use Rattle.chapters.specs.declared.Filing.{Filing}
-use Rattle.chapters.specs.declared.Filing.TheVariants as filing
+use Rattle.refusals.specs.declared.Refusal.{Refusal}
+use Rattle.refusals.specs.Refusals.{outcome}
 
 -- Clauses (the paper's rules) are filed in chapters, 0 to 31.
 abbrev pub max_chapter : ℕ
@@ -30,21 +29,17 @@ unfoldable pub chapters_fit : ℕ → List ℕ → ℕ → Bool
 chapters_fit clauses chapters room =
     leb clauses (length chapters) && all (λ (chapter : ℕ). leb chapter max_chapter) (take clauses chapters) && leb chapter_count room
 
--- The answer: the refusal number, or whether the chapters fit.
-abbrev pub filing_of : Outcome Bool → Filing
-filing_of (refused number) = filing.Refused number
-filing_of (accepted fit) = filing.Filed fit
-
 -- The lent totals afterwards: those written where the answer is true, followed by what is lent behind them; else nothing is written.
-abbrev pub totals_after : List ℕ → List ℕ → Filing → List ℕ
-totals_after written buffer (filing.Refused number) = buffer
-totals_after written buffer (filing.Filed false) = buffer
-totals_after written buffer (filing.Filed true) = written ++ drop chapter_count buffer
+abbrev pub totals_after : List ℕ → List ℕ → Result Bool Refusal → List ℕ
+totals_after written buffer (Err refusal) = buffer
+totals_after written buffer (Ok false) = buffer
+totals_after written buffer (Ok true) = written ++ drop chapter_count buffer
 
 -- On a book, of a session and of chapters, all as lent numbers. What only reads refuses by 11 and 12 alone.
+-- The answer: the refusal, or whether the chapters fit.
 module _ (book session chapters : List ℕ) where
-  unfoldable pub chapter_answer : ℕ → Filing
-  chapter_answer room = filing_of (outcome (read_refusal book session) (chapters_fit (clauses_of book) chapters room))
+  unfoldable pub chapter_answer : ℕ → Result Bool Refusal
+  chapter_answer room = outcome (read_refusal book session) (chapters_fit (clauses_of book) chapters room)
 
   unfoldable pub chapter_numbers : List ℕ → List ℕ
   chapter_numbers totals = totals_after (chapter_totals (held (formula_of book) session).checks chapters) totals (chapter_answer (length totals))

@@ -6,67 +6,53 @@ ghost use Rattle.script.specs.Script.{line_of};
 ghost use Rattle.quote.specs.Quote.{is_back, back_lines, quote_answer};
 
 use layout::ceiling::worst;
+use refusals::Refusal;
+use script::LINE_END;
 
 // The most lines of the form `b k` in a script that is quoted for (`max_back_lines`).
-const MAX_BACK_LINES: usize = 1000000;
+const MAX_BACK_LINES: usize = 1_000_000;
 
-// What a quote tells: the session's length, W, how many lines of the form `b k` the script has, and the quoted ceiling; or the refusal number.
-#[derive(Clone, Copy)]
-pub enum Quote {
-    Of {
-        length: u32,
-        worst: u32,
-        back_lines: u32,
-        ceiling: u64,
-    },
-    Refused(u32),
+// What a quote tells: the session's length, W, how many lines of the form `b k` the script has, and the quoted ceiling.
+#[derive(Clone, Copy, Debug, PartialEq, Eq)]
+pub struct Quote {
+    pub length: u32,
+    pub worst: u32,
+    pub back_lines: u32,
+    pub ceiling: u64,
 }
 
 // Whether a line, without its byte 10, is of the form `b k`.
+#[tactic(auto, unfolding(crate::specs::Quote::is_back))]
 fn is_back(line: &[u8]) -> bool
     ensures { result ≡ is_back (line_of line.now) }
 {
-    match script::parse_line(line) {
-        script::Line::Choose(_) => false,
-        script::Line::Back(_) => true,
-        script::Line::Malformed => false,
-    }
+    matches!(script::parse_line(line), Some(script::Line::Back(_)))
 }
 
 // How many lines of a script are of the form `b k`.
 fn back_lines(script: &[u8]) -> usize
     ensures { result ≡ back_lines script.now }
 {
-    let mut count = 0;
-    let mut at = 0;
-    while at < script.len() {
-        let end = at + script::line_end(&script[at..]);
-        if is_back(&script[at..end]) {
-            count += 1;
-        }
-        at = end + 1;
-    }
-    count
+    script
+        .split(|byte| *byte == LINE_END)
+        .filter(|line| is_back(line))
+        .count()
 }
 
 // Quotes for a session on a book and the script that is to be run there.
-pub fn quote_script(book: &[u32], script: &[u8]) -> Quote
+pub fn quote_script(book: &[u32], script: &[u8]) -> Result<Quote, Refusal>
     ensures { result ≡ quote_answer book.now script.now }
 {
-    match session::required_length(book) {
-        session::Count::Refused(number) => Quote::Refused(number),
-        session::Count::Of(length) => {
-            let lines = back_lines(script);
-            if MAX_BACK_LINES < lines {
-                return Quote::Refused(17);
-            }
-            let worst = worst(book);
-            Quote::Of {
-                length,
-                worst,
-                back_lines: lines as u32,
-                ceiling: worst as u64 * (lines as u64 + 1),
-            }
-        }
+    let length = session::required_length(book)?;
+    let lines = back_lines(script);
+    if MAX_BACK_LINES < lines {
+        return Err(Refusal::BacktrackCount);
     }
+    let worst = worst(book);
+    Ok(Quote {
+        length,
+        worst,
+        back_lines: lines as u32,
+        ceiling: u64::from(worst) * (lines as u64 + 1),
+    })
 }

@@ -26,7 +26,7 @@ pub enum Cause {
 }
 
 // The byte that ends a line.
-const LINE_END: u8 = b'\n';
+pub const LINE_END: u8 = b'\n';
 
 // Where the first line ends: as many bytes as stand before the first byte 10, or all.
 pub fn line_end(bytes: &[u8]) -> usize

@@ -1,27 +1,18 @@
-use mathlib.Core.Path.{sym}
+use mathlib.Core.Path.{◌∙◌}
 use native.Mathlib.Omega.{arith}
 use borrow.Author.Rules.{rules}
-use Rattle.chapters.proofs.FitLaws.{within_none, within_more, fit_true, unfit}
+use borrow.Author.Tests.{tests}
+use lib.ListN.{take}
+use Rattle.std.proofs.lemmas.Iterator.{YieldsList-from_slice}
+use Rattle.std.proofs.lemmas.Iterator.Search.{all_from_yields_List}
+use Rattle.chapters.proofs.FitLaws.{low, few_unfit, fit_by}
 use Rattle.chapters.proofs.chapters_fit.Goals as goal
 
-pub returns-then-room-lt-CHAPTERS : goal.returns-then-room-lt-CHAPTERS
-returns-then-room-lt-CHAPTERS c = unfit _ c.args.chapters.now _ (λ f. omega (arith, c.if-room-lt-CHAPTERS.true, f.roomy))
+pub returns-then-clauses-chapters : goal.returns-then-clauses-chapters
+returns-then-clauses-chapters c =
+    all_from_yields_List low _ _ _ c.all.ensures.ran (YieldsList-from_slice (take c.args.clauses c.args.chapters.now) c.iter.ensures.rest)
+    (λ x b q k. search (rules, tests))
+    ∙ fit_by _ c.args.chapters.now _ (omega arith) (omega arith)
 
-pub returns-then-chapters-clauses : goal.returns-then-chapters-clauses
-returns-then-chapters-clauses c = unfit _ c.args.chapters.now _ (λ f. omega (arith, c.if-chapters-clauses.true, f.enough))
-
-pub loop-i-init : goal.loop-i-init
-loop-i-init c = within_none c.args.chapters.now
-
-pub returns-then-chapters-i-gt-MAX_CHAPTER : goal.returns-then-chapters-i-gt-MAX_CHAPTER
-returns-then-chapters-i-gt-MAX_CHAPTER c =
-    unfit _ c.args.chapters.now _ (λ f. omega (arith, c.if-chapters-i-gt-MAX_CHAPTER.true, f.within c.loop-i.i (search rules)))
-
-pub loop-i-preserved : goal.loop-i-preserved
-loop-i-preserved c = within_more c.args.chapters.now c.loop-i.i c.loop-i.invariant (search rules)
-
-pub returns : goal.returns
-returns c =
-    sym
-    (fit_true _ c.args.chapters.now _
-    (record { enough = omega (arith, c.if-chapters-clauses.false); within = λ j h. c.loop-i.invariant j (search rules); roomy = omega (arith, c.if-room-lt-CHAPTERS.false) }))
+pub returns-else-clauses-chapters : goal.returns-else-clauses-chapters
+returns-else-clauses-chapters c = let u = few_unfit c.args.clauses c.args.chapters.now c.args.room (λ r. omega arith) in let v = c.if-clauses-chapters.either in search rules
