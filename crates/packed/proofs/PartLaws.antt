@@ -11,7 +11,7 @@ use lib.ListN.{length, take, drop, set, length-append, length-drop, take-append-
 use lib.Seq.{length-take-le, drop-drop}
 use Rattle.base.specs.Lists.{copied}
 use Rattle.base.proofs.Copies.{Copied, copied_none, copied_more, length-copied, copied_all, copied_behind}
-use Rattle.packed.specs.Packed.{max_bytes, stands, standing, place_of, record_length, field_of, part, part_within, values_within, map_of, map_within, part_at, part_of, field_good, field_value, field_answer, part_good, part_value, good_at, value_at, record_of, record_good, quote_of, record_answer, record_refusal, record_written, record_after}
+use Rattle.packed.specs.Packed.{max_bytes, stands, standing, place_of, record_length, field_of, part, map_of, map_within, part_at, part_of, field_good, field_value, field_answer, part_good, part_value, good_at, value_at, record_of, record_good, quote_of, record_answer, record_refusal, record_written, record_after}
 use Rattle.packed.specs.Inner.Reading.{part_answer}
 use Rattle.packed.specs.declared.QuoteRecord.{QuoteRecord}
 use Rattle.std.specs.Prelude.{Result, Ok, Err}
@@ -50,9 +50,6 @@ module _ (map : ℕ) where
   pub place_end : record_length map ≡ place_of map 2 + span (stands map 2)
   unfolding standing
   place_end = omega arith
-
-pub length_by : (map : ℕ) {a b c : ℕ} → a ≡ span (stands map 0) → b ≡ span (stands map 1) → c ≡ span (stands map 2) → 1 + a + b + c ≡ record_length map
-length_by map e f g = omega (arith, place_second map, place_third map, place_end map)
 
 pub length_record : (map : ℕ) (base premium open_lines : ℤ) → length (record_of map base premium open_lines) ≡ record_length map
 unfolding record_of
@@ -121,7 +118,7 @@ record_so map base premium open_lines out now at p =
     ∙ append_assoc (map ∷ []) (part (stands map 0) base) (part (stands map 1) premium ++ part (stands map 2) open_lines) in
     (p.behind ∙ ap length whole, copied_all _ out now _ p.front (omega arith) ∙ ap (λ (l : List ℕ). copied l out) whole)
 
--- the map, and the values one after the other
+-- the map
 pub map_in : (map : ℕ) → map ≤ 7 → map_within map ≡ true
 unfolding map_within
 map_in map h = lt-ltb map 8 (omega arith)
@@ -129,25 +126,6 @@ map_in map h = lt-ltb map 8 (omega arith)
 pub map_over : (map : ℕ) → 7 < map → map_within map ≡ false
 unfolding map_within
 map_over map h = le-ltb map 8 (omega arith)
-
-module _ (map : ℕ) (base premium open_lines : ℤ) where
-  pub first_over : part_within (stands map 0) base ≡ false → values_within map base premium open_lines ≡ false
-  unfolding values_within
-  first_over e = rw e
-
-  pub second_over : part_within (stands map 0) base ≡ true → part_within (stands map 1) premium ≡ false → values_within map base premium open_lines ≡ false
-  unfolding values_within
-  second_over e f = rw (e, f)
-
-  pub third_over : part_within (stands map 0) base ≡ true → part_within (stands map 1) premium ≡ true → part_within (stands map 2) open_lines ≡ false
-      → values_within map base premium open_lines ≡ false
-  unfolding values_within
-  third_over e f g = rw (e, f, g)
-
-  pub none_over : part_within (stands map 0) base ≡ true → part_within (stands map 1) premium ≡ true → part_within (stands map 2) open_lines ≡ true
-      → values_within map base premium open_lines ≡ true
-  unfolding values_within
-  none_over e f g = rw (e, f, g)
 
 -- what is read of a part
 module _ (bytes : List ℕ) where

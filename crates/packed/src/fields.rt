@@ -88,9 +88,9 @@ pub(crate) fn number_in(bytes: &[u8]) -> Option<u64>
     ensures { result ≡ number_in bytes.now }
 {
     let mut number = 0;
-    for byte in bytes {
-        let high = *byte / 16;
-        let low = *byte % 16;
+    for &byte in bytes {
+        let high = byte / 16;
+        let low = byte % 16;
         if high > 9 || low > 9 {
             return None;
         }

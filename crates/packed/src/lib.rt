@@ -47,9 +47,11 @@ pub fn read_field(bytes: &[u8]) -> Result<i64, Refusal>
     if !length_within(bytes.len()) {
         return Err(Refusal::PackedForm);
     }
-    let last = bytes.len() - 1;
-    let number = number_in(&bytes[..last]).ok_or(Refusal::PackedForm)?;
-    closed(number, bytes[last])
+    let Some((&last, front)) = bytes.split_last() else {
+        return Err(Refusal::PackedForm);
+    };
+    let number = number_in(front).ok_or(Refusal::PackedForm)?;
+    closed(number, last)
 }
 
 /// Writes a quote record, the map and the values whose bit stands in it, and returns how many bytes it has.
@@ -70,10 +72,9 @@ pub fn write_quote(quote: QuoteRecord, out: &mut [u8]) -> Result<u32, Refusal>
 pub fn read_quote(bytes: &[u8]) -> Result<QuoteRecord, Refusal>
     ensures { result ≡ record_answer bytes.now }
 {
-    if bytes.len() == 0 {
+    let Some(&map) = bytes.first() else {
         return Err(Refusal::PackedForm);
-    }
-    let map = bytes[0];
+    };
     if map > MAX_MAP || bytes.len() != record_length(map) {
         return Err(Refusal::PackedForm);
     }
