@@ -40,7 +40,7 @@ pub fn write_field(value: i64, bytes: usize, out: &mut [u8]) -> Result<u32, Refu
 }
 
 /// Reads a field: all bytes lent.
-#[tactic(auto, using(crate::proofs::FormLaws::length_parts))]
+#[tactic(auto, using(crate::proofs::FieldLaws::unread, crate::proofs::FieldLaws::read_bad, crate::proofs::FieldLaws::number_small, crate::proofs::FieldLaws::read_closed, crate::proofs::FormLaws::length_parts))]
 pub fn read_field(bytes: &[u8]) -> Result<i64, Refusal>
     ensures { result ≡ field_answer bytes.now }
 {
@@ -69,6 +69,7 @@ pub fn write_quote(quote: QuoteRecord, out: &mut [u8]) -> Result<u32, Refusal>
 }
 
 /// Reads a quote record: all bytes lent. A value whose bit does not stand is 0.
+#[tactic(auto, unfolding(crate::specs::Packed::map_within, crate::specs::Packed::record_good, crate::specs::Packed::record_answer))]
 pub fn read_quote(bytes: &[u8]) -> Result<QuoteRecord, Refusal>
     ensures { result ≡ record_answer bytes.now }
 {
