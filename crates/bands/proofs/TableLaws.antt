@@ -17,7 +17,6 @@ use Rattle.bands.specs.Inner.Triples.{band_from}
 use Rattle.bands.specs.declared.Band.{Band}
 use Rattle.bands.specs.declared.TableFault.{TableFault}
 use Rattle.bands.specs.declared.TableFault.TheVariants.{Malformed, Gap, Overlap}
-use Rattle.refusals.specs.declared.Refusal.TheVariants.{PriceInput}
 
 -- the bands of a table are made of its threes
 pub bands_by_threes : (numbers : List ℕ) (count : ℕ) → count ≡ length numbers / 3 → map band_from (first_chunks 3 count numbers) ≡ bands_of numbers
@@ -142,10 +141,6 @@ module _ (numbers : List ℕ) where
 
 -- the factor of an age, or why there is none
 module _ (numbers : List ℕ) (age : ℕ) where
-  pub age_over : max_age < age → Err PriceInput ≡ factor_answer numbers age
-  unfolding factor_answer
-  age_over h = rw (lt-leb age max_age h)
-
   pub factor_by_lem : age ≤ max_age → (report : Result (Unit {0}) TableFault) → report ≡ checked_table numbers → factor_by age (bands_of numbers) report ≡ factor_answer numbers age
   unfolding factor_answer
   factor_by_lem h report is = rw (le-leb age max_age h, is)

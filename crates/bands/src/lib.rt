@@ -74,6 +74,7 @@ fn band_of(numbers: [u32; 3]) -> Band
 }
 
 // The whole bands of a table, three numbers each.
+#[tactic(auto, using(crate::proofs::TableLaws::bands_by_threes))]
 fn triples(table: &[u32]) -> &[[u32; 3]]
     ensures { map band_from result.now ≡ bands_of table.now }
 {
@@ -153,6 +154,7 @@ fn first_factor(table: &[u32], age: u32) -> u32
 }
 
 /// The factor of an age in a good table.
+#[tactic(auto, unfolding(crate::specs::Bands::factor_answer))]
 pub fn factor_at(table: &[u32], age: u32) -> Result<u32, Refusal>
     ensures { result ≡ factor_answer table.now age }
 {

@@ -7,8 +7,8 @@ use native.Mathlib.Nat.{pow-le-pow_right}
 use native.Mathlib.Omega.{arith}
 use lib.Dec.{eqb}
 use lib.IntN.{ℤ, nat_abs}
-use lib.ListN.{length, take, drop}
-use lib.Seq.{length-take-le, take_all}
+use lib.ListN.{length, get_or, take, drop}
+use lib.Seq.{length-take-le, take_all, take_at, get_or_at}
 use Rattle.base.specs.Lists.{all, copied}
 use Rattle.base.proofs.Bools.{and_parts}
 use Rattle.base.proofs.Lists.{all_more, length_more}
@@ -75,9 +75,6 @@ module _ (bytes : List ℕ) (within : length_within (length bytes) ≡ true) whe
   abbrev some : 1 ≤ length bytes
   some = (length_parts (length bytes) within).0
 
-  abbrev front : List ℕ
-  front = take (length bytes - 1) bytes
-
   abbrev leads : List ℕ
   leads = leading_nibbles bytes
 
@@ -100,37 +97,48 @@ module _ (bytes : List ℕ) (within : length_within (length bytes) ≡ true) whe
       parted true d s v = refl
       parted false d s v = refl
 
-  -- as the code comes to it: what the bytes before the last one write, if their nibbles are digits
-  module _ (found : Option ℕ) (is : found ≡ number_in front) where
-    led : (b : Bool) → all is_digit leads ≡ b → found ≡ cond b (Some (decimal 0 leads)) None
-    unfolding number_in
-    led b q = is ∙ ap (λ (t : Bool). cond t (Some (decimal 0 leads)) None) q
+  -- as the code comes to it: by the last byte, and by what the bytes before it write, if their nibbles are digits
+  module _ (end : ℕ) (front : List ℕ) (split : (bytes ≡ front ++ (end ∷ [])) × (length front + 1 ≡ length bytes)) where
+    front-is : take (length bytes - 1) bytes ≡ front
+    front-is =
+        let size : length front ≡ length bytes - 1 = omega (arith, split.1) in
+        ap (λ (l : List ℕ). take (length bytes - 1) l) split.0 ∙ take_at front (end ∷ []) (length bytes - 1) size
 
-    pub read_bad : found ≡ None → Err PackedForm ≡ field_answer bytes
-    read_bad none = go (all is_digit leads) refl
-      where
-        go : (b : Bool) → all is_digit leads ≡ b → Err PackedForm ≡ field_answer bytes
-        go true q = let z : Some (decimal 0 leads) ≡ None = sym (led true q) ∙ none in cc
-        go false q = sym (answer_split ∙ ap (λ (t : Bool). cond t (closed_by (decimal 0 leads) last) (Err PackedForm)) q)
+    last-is : last ≡ end
+    last-is =
+        let size : length bytes - 1 ≡ length front = omega (arith, split.1) in
+        ap₂ (λ (l : List ℕ) (i : ℕ). get_or l i 0) split.0 size ∙ get_or_at front end [] 0 (length front) refl
 
-    pub read_number : (n : ℕ) → found ≡ Some n → (n ≡ decimal 0 leads) × (all is_digit leads ≡ true)
-    read_number n some = go (all is_digit leads) refl
-      where
-        go : (b : Bool) → all is_digit leads ≡ b → (n ≡ decimal 0 leads) × (all is_digit leads ≡ true)
-        go true q = let z : Some n ≡ Some (decimal 0 leads) = sym some ∙ led true q in ((cc), q)
-        go false q = let z : Some n ≡ None = sym some ∙ led false q in cc
+    module _ (found : Option ℕ) (is : found ≡ number_in front) where
+      led : (b : Bool) → all is_digit leads ≡ b → found ≡ cond b (Some (decimal 0 leads)) None
+      unfolding number_in
+      led b q = is ∙ ap number_in (sym front-is) ∙ ap (λ (t : Bool). cond t (Some (decimal 0 leads)) None) q
 
-    pub number_small : (n : ℕ) → found ≡ Some n → n < 1000000000000
-    number_small n e =
-        let few : length leads ≤ 12
-        = omega (arith, length_nibbles front, length-take-le (length bytes - 1) bytes (omega arith), (length_parts (length bytes) within).1) in
-        let most : 10 ^ length leads ≤ 10 ^ 12 = pow-le-pow_right {n = 10} (omega arith) {i = length leads} {j = 12} few in
-        omega (arith, decimal_below leads (read_number n e).1, (read_number n e).0)
+      pub read_bad : found ≡ None → Err PackedForm ≡ field_answer bytes
+      read_bad none = go (all is_digit leads) refl
+        where
+          go : (b : Bool) → all is_digit leads ≡ b → Err PackedForm ≡ field_answer bytes
+          go true q = let z : Some (decimal 0 leads) ≡ None = sym (led true q) ∙ none in cc
+          go false q = sym (answer_split ∙ ap (λ (t : Bool). cond t (closed_by (decimal 0 leads) last) (Err PackedForm)) q)
 
-    pub read_closed : (n : ℕ) → found ≡ Some n → closed_by n last ≡ field_answer bytes
-    read_closed n e =
-        ap (λ (m : ℕ). closed_by m last) (read_number n e).0
-        ∙ sym (answer_split ∙ ap (λ (t : Bool). cond t (closed_by (decimal 0 leads) last) (Err PackedForm)) (read_number n e).1)
+      pub read_number : (n : ℕ) → found ≡ Some n → (n ≡ decimal 0 leads) × (all is_digit leads ≡ true)
+      read_number n some = go (all is_digit leads) refl
+        where
+          go : (b : Bool) → all is_digit leads ≡ b → (n ≡ decimal 0 leads) × (all is_digit leads ≡ true)
+          go true q = let z : Some n ≡ Some (decimal 0 leads) = sym some ∙ led true q in ((cc), q)
+          go false q = let z : Some n ≡ None = sym some ∙ led false q in cc
+
+      pub number_small : (n : ℕ) → found ≡ Some n → n < 1000000000000
+      number_small n e =
+          let few : length leads ≤ 12
+          = omega (arith, length_nibbles (take (length bytes - 1) bytes), length-take-le (length bytes - 1) bytes (omega arith), (length_parts (length bytes) within).1) in
+          let most : 10 ^ length leads ≤ 10 ^ 12 = pow-le-pow_right {n = 10} (omega arith) {i = length leads} {j = 12} few in
+          omega (arith, decimal_below leads (read_number n e).1, (read_number n e).0)
+
+      pub read_closed : (n : ℕ) → found ≡ Some n → closed_by n end ≡ field_answer bytes
+      read_closed n e =
+          ap₂ closed_by (read_number n e).0 (sym last-is)
+          ∙ sym (answer_split ∙ ap (λ (t : Bool). cond t (closed_by (decimal 0 leads) last) (Err PackedForm)) (read_number n e).1)
 
 -- a good field by its tests, and what an answer tells
 module _ (bytes : List ℕ) where

@@ -177,17 +177,17 @@ field_numbers value bytes room =
     refused_where (length_within bytes) (value_within bytes value) (leb bytes room) (length_is bytes) (value_is value bytes) (leb-true bytes room, le-leb bytes room)
     (field_of bytes value) bytes (λ h. length_field bytes value h.0)
 
-module _ (value : ℤ) (bytes n : ℕ) (out : List ℕ) where
-  whole : field_written value bytes (length out) ≡ Ok n
+module _ (value : ℤ) (bytes : ℕ) (out : List ℕ) where
+  whole : (n : ℕ) → field_written value bytes (length out) ≡ Ok n
       → (length_within bytes ≡ true) × (value_within bytes value ≡ true) × (take n (field_after value bytes out) ≡ field_of bytes value) × (drop n (field_after value bytes out) ≡ drop n out)
   unfolding field_written field_after field_refusal
-  whole e =
+  whole n e =
       written_whole (length_within bytes) (value_within bytes value) (leb bytes (length out)) (field_of bytes value) out n
       (λ form room. omega (arith, length_field bytes value ((length_is bytes).0 form).0, leb-true bytes (length out) room)) e
 
   -- What is written stands in front, and what is lent behind it stays.
-  pub field_behind : field_written value bytes (length out) ≡ Ok n → (take n (field_after value bytes out) ≡ field_of bytes value) × (drop n (field_after value bytes out) ≡ drop n out)
-  field_behind e = ((whole e).2, (whole e).3)
+  pub field_behind : (n : ℕ) → field_written value bytes (length out) ≡ Ok n → (take n (field_after value bytes out) ≡ field_of bytes value) × (drop n (field_after value bytes out) ≡ drop n out)
+  field_behind n e = ((whole n e).2, (whole n e).3)
 
   -- A refusal writes nothing.
   pub field_stays : (refusal : Refusal) → field_written value bytes (length out) ≡ Err refusal → field_after value bytes out ≡ out
@@ -199,7 +199,7 @@ pub field_survives : (value : ℤ) (bytes : ℕ) (out : List ℕ) → 1 ≤ byte
     → (field_written value bytes (length out) ≡ Ok bytes) × (field_answer (take bytes (field_after value bytes out)) ≡ Ok value)
 field_survives value bytes out some few digits-fit room =
     let wrote = (field_numbers value bytes (length out)).accepted.1 ((some, few), digits-fit, room) in
-    let stored = whole value bytes bytes out wrote in
+    let stored = whole value bytes out bytes wrote in
     (wrote, rw stored.2 (field_read_back value bytes stored.0 stored.1))
 
 nibbles_good : (xs : List ℕ) → ((i : ℕ) → i < length xs → (get_or xs i 0 / 16 ≤ 9) × (get_or xs i 0 % 16 ≤ 9)) → all is_digit (nibbles_of xs) ≡ true
@@ -329,7 +329,7 @@ field_again bytes v e out room =
     let again = again_is bytes v e in
     let good = again.1 in
     let wrote = (field_numbers v (length bytes) (length out)).accepted.1 ((good.some_bytes, good.few_bytes), again.0, room) in
-    (wrote, rw (field_behind v (length bytes) (length bytes) out wrote).0 again.2)
+    (wrote, rw (field_behind v (length bytes) out (length bytes) wrote).0 again.2)
 
 -- A written field is good.
 pub written_good : (value : ℤ) (bytes : ℕ) → 1 ≤ bytes → bytes ≤ 7 → GoodField (field_of bytes value)

@@ -1,10 +1,9 @@
 -- When a field's length is within its limits, and how the refusals of writing come one after the other.
-use Prim.Native.Nat.{ℕ, ◌≤◌, ◌<◌}
+use Prim.Native.Nat.{ℕ, ◌≤◌}
 use mathlib.Core.Bool.{Bool, true, false}
 use mathlib.Core.Path.{◌≡◌, refl, ap}
 use mathlib.Core.List.{List}
-use native.Mathlib.Omega.{arith}
-use borrow.Author.Tests.{le-leb, lt-leb, leb-true}
+use borrow.Author.Tests.{le-leb, leb-true}
 use lib.Dec.{leb}
 use lib.IntN.{ℤ}
 use lib.ListN.{length}
@@ -13,7 +12,6 @@ use Rattle.base.proofs.Bools.{and_parts}
 use Rattle.packed.specs.Packed.{max_bytes, length_within, value_within, field_refusal, map_within, values_within, record_length, record_refusal, write_refusal, written_by, left_by}
 use Rattle.std.specs.Prelude.{Result, Ok, Err}
 use Rattle.refusals.specs.declared.Refusal.{Refusal}
-use Rattle.refusals.specs.declared.Refusal.TheVariants.{PackedForm, PackedDigits, ShortMemory}
 
 pub length_in : (bytes : ℕ) → 1 ≤ bytes → bytes ≤ max_bytes → length_within bytes ≡ true
 unfolding length_within
@@ -25,28 +23,7 @@ length_parts bytes e =
     let parts = and_parts (leb 1 bytes) (leb bytes max_bytes) e in
     (leb-true 1 bytes parts.0, leb-true bytes max_bytes parts.1)
 
-pub length_none : (bytes : ℕ) → bytes ≡ 0 → length_within bytes ≡ false
-unfolding length_within
-length_none bytes e = rw (lt-leb 1 bytes (omega arith))
-
-pub length_over : (bytes : ℕ) → max_bytes < bytes → length_within bytes ≡ false
-unfolding length_within
-length_over bytes h = rw (le-leb 1 bytes (omega arith), lt-leb bytes max_bytes h)
-
--- the refusals, by the first test that fails
-module _ (form values room : Bool) where
-  pub by_form : form ≡ false → Err PackedForm ≡ write_refusal form values room
-  by_form e = rw e
-
-  pub by_values : form ≡ true → values ≡ false → Err PackedDigits ≡ write_refusal form values room
-  by_values e f = rw (e, f)
-
-  pub by_room : form ≡ true → values ≡ true → room ≡ false → Err ShortMemory ≡ write_refusal form values room
-  by_room e f g = rw (e, f, g)
-
-  pub by_none : form ≡ true → values ≡ true → room ≡ true → Ok tt ≡ write_refusal form values room
-  by_none e f g = rw (e, f, g)
-
+-- what is refused by no test passes all of them
 pub none_by : (form values room : Bool) → write_refusal form values room ≡ Ok tt → (form ≡ true) × (values ≡ true) × (room ≡ true)
 none_by true true true e = (refl, refl, refl)
 none_by true true false e = cc

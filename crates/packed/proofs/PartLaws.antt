@@ -5,13 +5,13 @@ use mathlib.Core.Path.{◌≡◌, refl, sym, ap, ap₂, ◌∙◌}
 use mathlib.Core.List.{List, [], ◌∷◌, ◌++◌, append_assoc}
 use native.Mathlib.Nat.{add-zero}
 use native.Mathlib.Omega.{arith}
-use borrow.Author.Tests.{lt-ltb, le-ltb, eq-eqb, ne_eqb}
+use borrow.Author.Tests.{eq-eqb}
 use lib.IntN.{ℤ}
 use lib.ListN.{length, take, drop, set, length-append, length-drop, take-append-drop}
 use lib.Seq.{length-take-le, drop-drop}
 use Rattle.base.specs.Lists.{copied}
 use Rattle.base.proofs.Copies.{Copied, copied_none, copied_more, length-copied, copied_all, copied_behind}
-use Rattle.packed.specs.Packed.{max_bytes, stands, standing, place_of, record_length, field_of, part, part_within, values_within, map_of, map_within, part_at, part_of, field_good, field_value, field_answer, part_good, part_value, good_at, value_at, record_of, record_good, quote_of, record_answer, record_refusal, record_written, record_after}
+use Rattle.packed.specs.Packed.{max_bytes, stands, standing, place_of, record_length, field_of, part, map_of, map_within, part_at, part_of, field_good, field_value, field_answer, part_good, part_value, good_at, value_at, record_of, record_good, quote_of, record_answer, record_refusal, record_written, record_after}
 use Rattle.packed.specs.Inner.Reading.{part_answer}
 use Rattle.packed.specs.declared.QuoteRecord.{QuoteRecord}
 use Rattle.std.specs.Prelude.{Result, Ok, Err}
@@ -50,9 +50,6 @@ module _ (map : ℕ) where
   pub place_end : record_length map ≡ place_of map 2 + span (stands map 2)
   unfolding standing
   place_end = omega arith
-
-pub length_by : (map : ℕ) {a b c : ℕ} → a ≡ span (stands map 0) → b ≡ span (stands map 1) → c ≡ span (stands map 2) → 1 + a + b + c ≡ record_length map
-length_by map e f g = omega (arith, place_second map, place_third map, place_end map)
 
 pub length_record : (map : ℕ) (base premium open_lines : ℤ) → length (record_of map base premium open_lines) ≡ record_length map
 unfolding record_of
@@ -121,34 +118,6 @@ record_so map base premium open_lines out now at p =
     ∙ append_assoc (map ∷ []) (part (stands map 0) base) (part (stands map 1) premium ++ part (stands map 2) open_lines) in
     (p.behind ∙ ap length whole, copied_all _ out now _ p.front (omega arith) ∙ ap (λ (l : List ℕ). copied l out) whole)
 
--- the map, and the values one after the other
-pub map_in : (map : ℕ) → map ≤ 7 → map_within map ≡ true
-unfolding map_within
-map_in map h = lt-ltb map 8 (omega arith)
-
-pub map_over : (map : ℕ) → 7 < map → map_within map ≡ false
-unfolding map_within
-map_over map h = le-ltb map 8 (omega arith)
-
-module _ (map : ℕ) (base premium open_lines : ℤ) where
-  pub first_over : part_within (stands map 0) base ≡ false → values_within map base premium open_lines ≡ false
-  unfolding values_within
-  first_over e = rw e
-
-  pub second_over : part_within (stands map 0) base ≡ true → part_within (stands map 1) premium ≡ false → values_within map base premium open_lines ≡ false
-  unfolding values_within
-  second_over e f = rw (e, f)
-
-  pub third_over : part_within (stands map 0) base ≡ true → part_within (stands map 1) premium ≡ true → part_within (stands map 2) open_lines ≡ false
-      → values_within map base premium open_lines ≡ false
-  unfolding values_within
-  third_over e f g = rw (e, f, g)
-
-  pub none_over : part_within (stands map 0) base ≡ true → part_within (stands map 1) premium ≡ true → part_within (stands map 2) open_lines ≡ true
-      → values_within map base premium open_lines ≡ true
-  unfolding values_within
-  none_over e f g = rw (e, f, g)
-
 -- what is read of a part
 module _ (bytes : List ℕ) where
   pub part_value_lem : (present : Bool) (v : ℤ) → part_answer present bytes ≡ Ok v → (part_good present bytes ≡ true) × (v ≡ part_value present bytes)
@@ -177,43 +146,29 @@ module _ (bytes : List ℕ) (bit : ℕ) {present : Bool} (flag : present ≡ sta
   pub read_refused : (refusal : Refusal) → r ≡ Err refusal → (refusal ≡ PackedForm) × (good_at bit bytes ≡ false)
   read_refused refusal e = part_refused (part_of bit bytes) (stands (map_of bytes) bit) refusal (sym at-bit ∙ e)
 
--- what is read of a record: nothing where its map or its length is wrong
-module _ (bytes : List ℕ) where
-  pub map_bad : map_within (map_of bytes) ≡ false → Err PackedForm ≡ record_answer bytes
+-- what is read of a record whose map and length are right, part by part
+module _ (bytes : List ℕ) (within : map_within (map_of bytes) ≡ true) (long : length bytes ≡ record_length (map_of bytes)) where
+  abbrev values : Result QuoteRecord Refusal
+  values = Ok (quote_of (map_of bytes) (value_at 0 bytes) (value_at 1 bytes) (value_at 2 bytes))
+
+  by_parts : record_answer bytes ≡ cond (good_at 0 bytes && good_at 1 bytes && good_at 2 bytes) values (Err PackedForm)
   unfolding record_answer record_good
-  map_bad e = rw e
+  by_parts = rw (within, eq-eqb (length bytes) (record_length (map_of bytes)) long)
 
-  pub length_bad : (length bytes ≡ record_length (map_of bytes) → ⊥) → Err PackedForm ≡ record_answer bytes
-  unfolding record_answer record_good
-  length_bad other = go (map_within (map_of bytes)) refl
-    where
-      go : (b : Bool) → map_within (map_of bytes) ≡ b → Err PackedForm ≡ record_answer bytes
-      go true q = rw (q, ne_eqb (length bytes) (record_length (map_of bytes)) other)
-      go false q = map_bad q
+  pub first_bad : good_at 0 bytes ≡ false → Err PackedForm ≡ record_answer bytes
+  first_bad e = sym (by_parts ∙ rw e)
 
-  -- and part by part where they are right
-  module _ (within : map_within (map_of bytes) ≡ true) (long : length bytes ≡ record_length (map_of bytes)) where
-    abbrev values : Result QuoteRecord Refusal
-    values = Ok (quote_of (map_of bytes) (value_at 0 bytes) (value_at 1 bytes) (value_at 2 bytes))
+  pub second_bad : good_at 0 bytes ≡ true → good_at 1 bytes ≡ false → Err PackedForm ≡ record_answer bytes
+  second_bad e f = sym (by_parts ∙ rw (e, f))
 
-    by_parts : record_answer bytes ≡ cond (good_at 0 bytes && good_at 1 bytes && good_at 2 bytes) values (Err PackedForm)
-    unfolding record_answer record_good
-    by_parts = rw (within, eq-eqb (length bytes) (record_length (map_of bytes)) long)
+  pub third_bad : good_at 0 bytes ≡ true → good_at 1 bytes ≡ true → good_at 2 bytes ≡ false → Err PackedForm ≡ record_answer bytes
+  third_bad e f g = sym (by_parts ∙ rw (e, f, g))
 
-    pub first_bad : good_at 0 bytes ≡ false → Err PackedForm ≡ record_answer bytes
-    first_bad e = sym (by_parts ∙ rw e)
-
-    pub second_bad : good_at 0 bytes ≡ true → good_at 1 bytes ≡ false → Err PackedForm ≡ record_answer bytes
-    second_bad e f = sym (by_parts ∙ rw (e, f))
-
-    pub third_bad : good_at 0 bytes ≡ true → good_at 1 bytes ≡ true → good_at 2 bytes ≡ false → Err PackedForm ≡ record_answer bytes
-    third_bad e f g = sym (by_parts ∙ rw (e, f, g))
-
-    pub none_bad : {map : ℕ} {base premium open_lines : ℤ} → good_at 0 bytes ≡ true → good_at 1 bytes ≡ true → good_at 2 bytes ≡ true
-        → map ≡ map_of bytes → base ≡ value_at 0 bytes → premium ≡ value_at 1 bytes → open_lines ≡ value_at 2 bytes → Ok (quote_of map base premium open_lines) ≡ record_answer bytes
-    none_bad {map} {base} {premium} {open_lines} e f g m b p l =
-        let same : Ok (quote_of map base premium open_lines) ≡ values = cc in
-        same ∙ sym (by_parts ∙ rw (e, f, g))
+  pub none_bad : {map : ℕ} {base premium open_lines : ℤ} → good_at 0 bytes ≡ true → good_at 1 bytes ≡ true → good_at 2 bytes ≡ true
+      → map ≡ map_of bytes → base ≡ value_at 0 bytes → premium ≡ value_at 1 bytes → open_lines ≡ value_at 2 bytes → Ok (quote_of map base premium open_lines) ≡ record_answer bytes
+  none_bad {map} {base} {premium} {open_lines} e f g m b p l =
+      let same : Ok (quote_of map base premium open_lines) ≡ values = cc in
+      same ∙ sym (by_parts ∙ rw (e, f, g))
 
 -- A record whose map and length are right, read part by part, each as the code comes to it: by its flag, its place and what it answered.
 module _ (bytes : List ℕ) (map : ℕ) (is : map ≡ map_of bytes) (within : map_within map ≡ true) (long : length bytes ≡ record_length map) where

@@ -58,6 +58,7 @@ pub(crate) fn field_refusal(value: i64, bytes: usize, room: usize) -> Result<(),
 }
 
 // The sign nibble that is written: plus for zero.
+#[tactic(auto, unfolding(crate::specs::Packed::sign_of))]
 fn sign_of(value: i64) -> u8
     ensures { result ≡ sign_of value }
 {
@@ -66,7 +67,7 @@ fn sign_of(value: i64) -> u8
 }
 
 // Writes a value as a field of as many bytes as are lent, the last byte first.
-#[tactic(auto, using(crate::proofs::fields::Writing::sign_small))]
+#[tactic(auto, using(crate::proofs::fields::Writing::sign_small, crate::proofs::fields::Writing::put_more, crate::proofs::fields::Writing::put_all))]
 pub(crate) fn put_field(value: i64, out: &mut [u8])
     requires { 1 ≤ length out.old }
     ensures { out.new ≡ field_of (length out.old) value }
@@ -88,9 +89,9 @@ pub(crate) fn number_in(bytes: &[u8]) -> Option<u64>
     ensures { result ≡ number_in bytes.now }
 {
     let mut number = 0;
-    for byte in bytes {
-        let high = *byte / 16;
-        let low = *byte % 16;
+    for &byte in bytes {
+        let high = byte / 16;
+        let low = byte % 16;
         if high > 9 || low > 9 {
             return None;
         }
@@ -100,6 +101,7 @@ pub(crate) fn number_in(bytes: &[u8]) -> Option<u64>
 }
 
 // The value of a field, by the number that its leading digits write and by its last byte.
+#[tactic(auto, unfolding(crate::specs::Inner::Reading::closed_by, crate::specs::Packed::is_digit, crate::specs::Packed::is_sign))]
 pub(crate) fn closed(number: u64, last: u8) -> Result<i64, Refusal>
     requires { number < 1000000000000 }
     ensures { result ≡ closed_by number last }

@@ -40,16 +40,18 @@ pub fn write_field(value: i64, bytes: usize, out: &mut [u8]) -> Result<u32, Refu
 }
 
 /// Reads a field: all bytes lent.
-#[tactic(auto, using(crate::proofs::FormLaws::length_parts))]
+#[tactic(auto, using(crate::proofs::FieldLaws::unread, crate::proofs::FieldLaws::read_bad, crate::proofs::FieldLaws::number_small, crate::proofs::FieldLaws::read_closed, crate::proofs::FormLaws::length_parts))]
 pub fn read_field(bytes: &[u8]) -> Result<i64, Refusal>
     ensures { result ≡ field_answer bytes.now }
 {
     if !length_within(bytes.len()) {
         return Err(Refusal::PackedForm);
     }
-    let last = bytes.len() - 1;
-    let number = number_in(&bytes[..last]).ok_or(Refusal::PackedForm)?;
-    closed(number, bytes[last])
+    let Some((&last, front)) = bytes.split_last() else {
+        return Err(Refusal::PackedForm);
+    };
+    let number = number_in(front).ok_or(Refusal::PackedForm)?;
+    closed(number, last)
 }
 
 /// Writes a quote record, the map and the values whose bit stands in it, and returns how many bytes it has.
@@ -67,13 +69,13 @@ pub fn write_quote(quote: QuoteRecord, out: &mut [u8]) -> Result<u32, Refusal>
 }
 
 /// Reads a quote record: all bytes lent. A value whose bit does not stand is 0.
+#[tactic(auto, unfolding(crate::specs::Packed::map_within, crate::specs::Packed::record_good, crate::specs::Packed::record_answer))]
 pub fn read_quote(bytes: &[u8]) -> Result<QuoteRecord, Refusal>
     ensures { result ≡ record_answer bytes.now }
 {
-    if bytes.len() == 0 {
+    let Some(&map) = bytes.first() else {
         return Err(Refusal::PackedForm);
-    }
-    let map = bytes[0];
+    };
     if map > MAX_MAP || bytes.len() != record_length(map) {
         return Err(Refusal::PackedForm);
     }

@@ -76,6 +76,7 @@ pub(crate) fn record_refusal(quote: QuoteRecord, room: usize) -> Result<(), Refu
 }
 
 // Writes a part at a place, where it is present, and returns the place behind it.
+#[tactic(auto, using(crate::proofs::PartLaws::absent_put, crate::proofs::PartLaws::present_put, crate::proofs::PartLaws::length_part))]
 pub(crate) fn put_part(present: bool, value: i64, at: usize, out: &mut [u8]) -> usize
     requires { at + length (part present value) ≤ length out.old }
     ensures value { result ≡ at + length (part present value) }
@@ -90,6 +91,7 @@ pub(crate) fn put_part(present: bool, value: i64, at: usize, out: &mut [u8]) -> 
 }
 
 // Reads a part at a place, where it is present; else it is 0.
+#[tactic(auto, unfolding(crate::specs::Inner::Reading::part_answer))]
 fn read_part(present: bool, at: usize, bytes: &[u8]) -> Result<i64, Refusal>
     requires { at + max_bytes * cond present 1 0 ≤ length bytes.now }
     ensures { result ≡ part_answer present (part_at at bytes.now) }

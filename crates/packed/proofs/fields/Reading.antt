@@ -1,27 +1,20 @@
--- A field as it is read: the bytes before its last one, byte by byte, and the last byte.
+-- A field as it is read: the bytes before its last one, byte by byte.
 use Prim.Native.Nat.{ℕ, ◌+◌, ◌*◌, ◌/◌, ◌%◌, ◌^◌, ◌≤◌, ◌<◌}
-use mathlib.Core.Bool.{Bool, true, false, cond}
+use mathlib.Core.Bool.{true, false}
 use mathlib.Core.Path.{◌≡◌, refl, sym, ap, ◌∙◌}
 use mathlib.Core.Logic.{◌⊎◌, inl, inr}
 use mathlib.Core.List.{List, [], ◌∷◌, ◌++◌, append_assoc}
 use native.Mathlib.Nat.{pow-le-pow_right}
 use native.Mathlib.Numerals.{add-one}
 use native.Mathlib.Omega.{arith}
-use borrow.Author.Tests.{le-leb, lt-leb, eq-eqb, ne_eqb}
-use lib.IntN.{ℤ, pos, neg_ℤ, nat_abs}
 use lib.ListN.{length, get_or, take}
 use lib.Seq.{take-suc, take_all, length-take-le}
-use mir.Syntax.{w64}
-use mir.Val.{to_z, of_z}
-use mir.ValLaws.{to_z-of_z}
 use Rattle.base.specs.Lists.{all}
 use Rattle.base.proofs.Bools.{refuted}
 use Rattle.base.proofs.Lists.{all_at, all_both}
-use Rattle.base.proofs.Signed.{size_turned, small_fits}
-use Rattle.std.specs.Prelude.{Some, None, Ok, Err}
-use Rattle.refusals.specs.declared.Refusal.TheVariants.{PackedForm}
-use Rattle.packed.specs.Packed.{nibbles_of, is_digit, is_sign, decimal, signed}
-use Rattle.packed.specs.Inner.Reading.{number_in, closed_by}
+use Rattle.std.specs.Prelude.{Some, None}
+use Rattle.packed.specs.Packed.{nibbles_of, is_digit, decimal}
+use Rattle.packed.specs.Inner.Reading.{number_in}
 use Rattle.packed.proofs.NibbleLaws.{nibbles_append, length_nibbles, high_at, low_at}
 use Rattle.packed.proofs.DigitLaws.{is_digit_lem, digit_most, decimal_more, decimal_below}
 
@@ -86,42 +79,3 @@ module _ (bytes : List ℕ) (number at : ℕ) (r : ReadBefore bytes number at) w
     pub read_other : (9 < byte / 16) ⊎ (9 < byte % 16) → None ≡ number_in bytes
     read_other (inl k) = bad (2 * at) (omega (arith, length_nibbles bytes)) (rw (high_at bytes at) k)
     read_other (inr k) = bad (2 * at + 1) (omega (arith, length_nibbles bytes)) (rw (low_at bytes at) k)
-
--- the last byte: its digit, then its sign
-module _ (number last : ℕ) where
-  abbrev size : ℕ
-  size = 10 * number + last / 16
-
-  pub closed_digit : 9 < last / 16 → Err PackedForm ≡ closed_by number last
-  unfolding closed_by is_digit
-  closed_digit h = rw (lt-leb (last / 16) 9 h)
-
-  pub closed_bad : last / 16 ≤ 9 → (last % 16 ≡ 12 → ⊥) → (last % 16 ≡ 13 → ⊥) → (last % 16 ≡ 15 → ⊥) → Err PackedForm ≡ closed_by number last
-  unfolding closed_by is_digit is_sign
-  closed_bad h c d f = rw (le-leb (last / 16) 9 h, ne_eqb (last % 16) 12 c, ne_eqb (last % 16) 13 d, ne_eqb (last % 16) 15 f)
-
-  closed_value : last / 16 ≤ 9 → is_sign (last % 16) ≡ true → closed_by number last ≡ Ok (signed (last % 16) size)
-  unfolding closed_by is_digit
-  closed_value h e = rw (le-leb (last / 16) 9 h, e)
-
-  -- the number as the machine keeps it
-  kept : number < 1000000000000 → last / 16 ≤ 9 → (minus : Bool) (r : ℤ) → r ≡ cond minus (neg_ℤ (pos size)) (pos size) → to_z w64 (of_z w64 r) ≡ cond minus (neg_ℤ (pos size)) (pos size)
-  kept h k minus r e = to_z-of_z w64 r (small_fits r (omega (arith, ap nat_abs e, size_turned minus size))) ∙ e
-
-  pub closed_minus : number < 1000000000000 → last / 16 ≤ 9 → last % 16 ≡ 13 → (r : ℤ) → r ≡ neg_ℤ (pos size) → Ok (to_z w64 (of_z w64 r)) ≡ closed_by number last
-  unfolding is_sign
-  closed_minus h k s r e =
-      ap Ok (kept h k true r e ∙ ap (λ (b : Bool). cond b (neg_ℤ (pos size)) (pos size)) (sym (eq-eqb (last % 16) 13 s))) ∙ sym (closed_value k (rw s))
-
-  pub closed_plus : number < 1000000000000 → last / 16 ≤ 9 → (last % 16 ≡ 12) ⊎ (last % 16 ≡ 15) → (r : ℤ) → r ≡ pos size → Ok (to_z w64 (of_z w64 r)) ≡ closed_by number last
-  unfolding is_sign
-  closed_plus h k s r e =
-      ap Ok (kept h k false r e ∙ ap (λ (b : Bool). cond b (neg_ℤ (pos size)) (pos size)) (sym (ne_eqb (last % 16) 13 (other s)))) ∙ sym (closed_value k (good s))
-    where
-      other : (last % 16 ≡ 12) ⊎ (last % 16 ≡ 15) → last % 16 ≡ 13 → ⊥
-      other (inl e) f = omega (arith, e, f)
-      other (inr e) f = omega (arith, e, f)
-
-      good : (last % 16 ≡ 12) ⊎ (last % 16 ≡ 15) → is_sign (last % 16) ≡ true
-      good (inl e) = rw e
-      good (inr e) = rw e

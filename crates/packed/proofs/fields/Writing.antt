@@ -1,28 +1,14 @@
--- A field as it is written: its limits and its sign, and its bytes from the last to the first.
+-- A field as it is written: its sign, and its bytes from the last to the first.
 use Prim.Native.Nat.{ℕ, suc, ◌+◌, ◌*◌, ◌-◌, ◌/◌, ◌%◌, ◌≤◌, ◌<◌}
-use mathlib.Core.Bool.{true, false}
-use mathlib.Core.Path.{◌≡◌, refl, sym, ap, ap₂, subst, ◌∙◌}
+use mathlib.Core.Path.{◌≡◌, refl, sym, ap, ap₂, ◌∙◌}
 use mathlib.Core.List.{List, [], ◌∷◌, ◌++◌, append_assoc}
 use native.Mathlib.Omega.{arith}
-use borrow.Author.Tests.{ltb-true}
-use lib.Dec.{T}
 use lib.IntN.{ℤ, pos, negsuc, nat_abs}
 use lib.ListN.{length, drop, set, length-set}
 use lib.Seq.{drop-cons, drop-set-lt, get_or-set_same, drop-length}
-use lib.Signed.{lt_z}
 use Rattle.packed.specs.Packed.{digits_in, digits, bytes_of, sign_of, field_of}
 use Rattle.packed.proofs.NibbleLaws.{bytes_append}
 use Rattle.packed.proofs.DigitLaws.{length_digits}
-
-pub sign_minus : (x : ℤ) → lt_z x (pos 0) ≡ true → 13 ≡ sign_of x
-unfolding sign_of
-sign_minus (pos n) e = let h : n < 0 = ltb-true n 0 e in absurd (omega arith)
-sign_minus (negsuc n) e = refl
-
-pub sign_plus : (x : ℤ) → lt_z x (pos 0) ≡ false → 12 ≡ sign_of x
-unfolding sign_of
-sign_plus (pos n) e = refl
-sign_plus (negsuc n) e = absurd (subst T e tt)
 
 pub sign_small : (x : ℤ) → sign_of x ≤ 15
 unfolding sign_of
