@@ -22,7 +22,7 @@ fn call_on(
     match call(rt, book, lent, step, called) {
         Ok(listed) => list_last(rt, book, lent, listed as usize),
         Err(refusal) => {
-            let _ = print!(rt; "refused {refusal}");
+            let _ = print!(rt; "{refusal}");
             compare(rt, session, &kept);
         }
     }

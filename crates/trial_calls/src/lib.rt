@@ -6,10 +6,11 @@ mod filing;
 mod quoting;
 pub mod reads;
 
-use crate::answers::{Listed, NO_LINE};
+use crate::answers::Listed;
 use crate::reads::read;
+use refusals::Refusal;
 use script::Line;
-use session::Answer;
+use session::Propagated;
 use trials::build::decode;
 use trials::lists::numbers;
 use trials::messages::{Message, say};
@@ -17,7 +18,12 @@ use trials::names::Call;
 use trials::rows::{behind, number};
 
 // Makes the calls of the list in a step.
-fn replay(rt: &impl Print, book: &[u32], session: &mut [u32], step: &[u8]) -> Answer {
+fn replay(
+    rt: &impl Print,
+    book: &[u32],
+    session: &mut [u32],
+    step: &[u8],
+) -> Result<Propagated, Refusal> {
     let mut calls = [0u32; 64];
     let n = numbers(rt, step, &mut calls);
     session::replay(book, &calls[..n], session)
@@ -32,15 +38,14 @@ fn backtrack(rt: &impl Print, book: &[u32], session: &mut [u32], k: u32) -> List
 }
 
 // What the line of a script asks; it stands behind the first blank of a step.
-fn parsed(rt: &impl Print, step: &[u8]) -> Line {
+fn parsed(rt: &impl Print, step: &[u8]) -> Option<Line> {
     let mut bytes = [0u8; 256];
     let n = decode(rt, &mut bytes, behind(step));
     script::parse_line(&bytes[..n])
 }
 
-fn line(rt: &impl Print, book: &[u32], session: &mut [u32], asked: Line) -> Listed {
-    match asked {
-        Line::Malformed => Err(NO_LINE),
+fn line(rt: &impl Print, book: &[u32], session: &mut [u32], asked: Option<Line>) -> Listed {
+    match asked.ok_or(Refusal::Line)? {
         Line::Choose(literal) => decide(rt, book, session, literal),
         Line::Back(k) => backtrack(rt, book, session, k),
     }

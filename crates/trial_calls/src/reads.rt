@@ -2,14 +2,19 @@
 use crate::answers;
 use crate::answers::Listed;
 use book::limits::MAX_VARIABLES;
-use session::Count;
+use refusals::Refusal;
 use trials::messages::Signed;
 use trials::names::Read;
 use trials::readings::sizes;
 use trials::space::{LENT, first};
 
 // What a call copies to so many numbers, with the word for it.
-fn copy_to<F: FnOnce(&mut [u32]) -> Count>(rt: &impl Print, word: &str, n: usize, copy: F) -> Listed
+fn copy_to<F: FnOnce(&mut [u32]) -> Result<u32, Refusal>>(
+    rt: &impl Print,
+    word: &str,
+    n: usize,
+    copy: F,
+) -> Listed
     requires { F.IsAlwaysCallable copy }
 {
     let mut space = [LENT; 64];
@@ -56,7 +61,7 @@ fn last<'a>(
     count: usize,
     trail: &'a mut [u32; MAX_VARIABLES],
 ) -> Option<&'a [u32]> {
-    let length = answers::length(session::trail_from(book, session, 0, trail))?;
+    let length = session::trail_from(book, session, 0, trail).ok()? as usize;
     trail.get(length.checked_sub(count)?..length)
 }
 

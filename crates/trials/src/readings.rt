@@ -6,29 +6,29 @@ use crate::lists::numbers;
 use crate::messages::{Message, say, say_each};
 use crate::rows::{number, part};
 use crate::space::{LENT, damage, first, untouched};
-use book::Reading;
+use book::Sizes;
 use book::limits::MAX_BOOK;
+use refusals::Refusal;
 
 // Says what a reading answers. Gives how many numbers the book has, None at a refusal.
-fn answered(rt: &impl Print, reading: Reading) -> Option<usize> {
+fn answered(rt: &impl Print, reading: Result<Sizes, Refusal>) -> Option<usize> {
     match reading {
-        Reading::Book {
-            variables,
-            clauses,
-            literals,
-        } => {
-            let _ = print!(rt; "V {variables} C {clauses} L {literals}");
-            Some(clauses as usize + literals as usize + 4)
+        Ok(sizes) => {
+            let _ = print!(rt;
+                "V {} C {} L {}",
+                sizes.variables, sizes.clauses, sizes.literals
+            );
+            Some(sizes.clauses as usize + sizes.literals as usize + 4)
         }
-        Reading::Refused(refusal) => {
-            let _ = print!(rt; "refused {refusal}");
+        Err(refusal) => {
+            let _ = print!(rt; "{refusal}");
             None
         }
     }
 }
 
 // Reads the text of a row into lent numbers.
-fn read(rt: &impl Print, base: &[u8], row: &[u8], buffer: &mut [u32]) -> Reading {
+fn read(rt: &impl Print, base: &[u8], row: &[u8], buffer: &mut [u32]) -> Result<Sizes, Refusal> {
     let mut text = [0u8; 65_536];
     let n = build::text(rt, &mut text, base, row);
     book::read(&text[..n], buffer)
