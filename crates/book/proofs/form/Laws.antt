@@ -3,7 +3,11 @@ use Prim.Native.Nat.{ℕ, zero, suc, ◌+◌, ◌-◌, ◌≤◌, ◌<◌}
 use mathlib.Core.Bool.{Bool, true, false}
 use mathlib.Core.List.{List}
 use mathlib.Core.Path.{◌≡◌, refl, sym, ◌∙◌}
-use Rattle.std.specs.Prelude.{MatchBool}
+use Rattle.std.specs.Prelude.{MatchBool, Some}
+
+use Rattle.std.specs.Ordering.{nat_cmp, is_some_and, is_le}
+use Rattle.std.specs.List.{IsAllAdjacentAnswer}
+use Rattle.std.proofs.lemmas.List.Sorted.{non_decreasing_from_is_sorted}
 use Rattle.std.specs.List.Sorted.{IsNonDecreasing}
 use native.Mathlib.Omega.{arith}
 use native.Mathlib.Numerals.{add-one}
@@ -56,6 +60,11 @@ module _ (numbers : List ℕ) (n : ℕ) (room : n + 4 ≤ length numbers) where
       let next : get_or starts_read (k + 1) 0 ≡ start_of numbers (suc k) = rw add-one (start_read (suc k) (omega arith)) in
       let falls : start_of numbers (suc k) < start_of numbers k = omega (arith, down 0, next, start_read k (omega arith)) in
       sym (refuted _ (λ rises. omega (arith, falls, rising_step numbers 0 n rises k (omega arith) (omega arith))))
+
+  -- the answer of `is_sorted` itself
+  pub is_sorted_rising : (sorted : Bool) → IsAllAdjacentAnswer (λ x y b. is_some_and is_le (Some (nat_cmp x y)) ≡ b) starts_read sorted
+      → sorted ≡ rising numbers 0 n
+  is_sorted_rising sorted said = sorted_rising sorted (non_decreasing_from_is_sorted starts_read sorted said)
 
 module _ (numbers : List ℕ) (c n : ℕ) where
   module _ (variables : ℕ) where
