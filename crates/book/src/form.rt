@@ -82,7 +82,7 @@ fn clause_sound(
     }
     for &l in clause {
         let literal = l as usize;
-        if literal < 2 || literal > 2 * variables + 1 || mark(marks, literal / 2, tag) {
+        if !(2..=2 * variables + 1).contains(&literal) || mark(marks, literal / 2, tag) {
             return false;
         }
     }

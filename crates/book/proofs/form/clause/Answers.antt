@@ -1,4 +1,3 @@
-use Rattle.std.proofs.Common.{arith}
 use Rattle.book.proofs.PartLaws.{clause_read}
 use Rattle.book.proofs.form.clause.Goals as goal
 

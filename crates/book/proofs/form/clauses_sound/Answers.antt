@@ -25,7 +25,7 @@ pub loop-c-preserved : goal.loop-c-preserved
 loop-c-preserved c = (
   c.clause_sound.ensures.bounded,
   sym (clauses_more _ _ _ _ c.loop-c-test.true (cc (c.if-not-clause_sound.ensures.value, c.clause.ensures)))
-    ∙ c.loop-c.invariant.1,
+      ∙ c.loop-c.invariant.1,
 )
 
 pub returns : goal.returns
