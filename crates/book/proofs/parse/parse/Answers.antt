@@ -6,7 +6,7 @@ use Rattle.refusals.specs.Refusals.{number_of}
 use Rattle.book.specs.Reading.{as_read, read_formula, refused}
 use Rattle.book.proofs.parse.Laws.{text_start, walk_refuses, outside_none, outside_variables, outside_clauses, within_limits, header_refused, header_taken, stored_front}
 use Rattle.book.proofs.parse.parse.Goals as goal
-use Rattle.book.proofs.parse.parse.Goals.{then-variables-eq0-via-then-variables-eq0, then-variables-eq0-via-else-variables-eq0+then-variables-gt-VARIABLES, then-variables-eq0-via-else-variables-eq0+else-variables-gt-VARIABLES+then-clauses-gt-CLAUSES}
+use Rattle.book.proofs.parse.parse.Goals.{then-variables-eq0-via-then-variables-eq0, then-variables-eq0-via-else-variables-eq0+then-variables-gt-MAX_VARIABLES, then-variables-eq0-via-else-variables-eq0+else-variables-gt-MAX_VARIABLES+then-clauses-gt-MAX_CLAUSES}
 
 pub returns-in_default : goal.returns-in_default
 unfolding number_of
@@ -18,8 +18,8 @@ returns-then-variables-eq0 c =
     text_start _ _ c.line_start-at.ensures ∙ c.in-Found.ensures.1 ∙ header_refused _ _ _
     (elim c.then-variables-eq0.branch [
       | then-variables-eq0-via-then-variables-eq0 w ↦ outside_none _ _ w.if-variables-eq0.true
-      | then-variables-eq0-via-else-variables-eq0+then-variables-gt-VARIABLES w ↦ outside_variables _ _ w.if-variables-gt-VARIABLES.true
-      | then-variables-eq0-via-else-variables-eq0+else-variables-gt-VARIABLES+then-clauses-gt-CLAUSES w ↦ outside_clauses _ _ w.if-clauses-gt-CLAUSES.true
+      | then-variables-eq0-via-else-variables-eq0+then-variables-gt-MAX_VARIABLES w ↦ outside_variables _ _ w.if-variables-gt-MAX_VARIABLES.true
+      | then-variables-eq0-via-else-variables-eq0+else-variables-gt-MAX_VARIABLES+then-clauses-gt-MAX_CLAUSES w ↦ outside_clauses _ _ w.if-clauses-gt-MAX_CLAUSES.true
     ])
 
 pub clauses_at-requires : goal.clauses_at-requires
@@ -32,7 +32,7 @@ pub returns-in-Refused : goal.returns-in-Refused
 returns-in-Refused c =
     text_start _ _ c.line_start-at.ensures
     ∙ c.in-Found.ensures.1
-    ∙ header_taken _ _ _ (within_limits _ _ c.if-variables-eq0.false c.if-variables-gt-VARIABLES.false c.if-clauses-gt-CLAUSES.false)
+    ∙ header_taken _ _ _ (within_limits _ _ c.if-variables-eq0.false c.if-variables-gt-MAX_VARIABLES.false c.if-clauses-gt-MAX_CLAUSES.false)
     ∙ c.in-Refused.ensures
     ∙ ap refused (sym c.of_clauses.ensures)
 
@@ -44,7 +44,7 @@ returns-in-Read c =
       written = record { variables = c.in-Found.variables; clauses = read.0 };
       is_accepted = text_start _ _ c.line_start-at.ensures
           ∙ c.in-Found.ensures.1
-          ∙ header_taken _ _ _ (within_limits _ _ c.if-variables-eq0.false c.if-variables-gt-VARIABLES.false c.if-clauses-gt-CLAUSES.false)
+          ∙ header_taken _ _ _ (within_limits _ _ c.if-variables-eq0.false c.if-variables-gt-MAX_VARIABLES.false c.if-clauses-gt-MAX_CLAUSES.false)
           ∙ read.1;
       same_variables = refl;
       same_clauses = read.2;
