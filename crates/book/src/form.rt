@@ -50,7 +50,7 @@ fn starts_rise(book: &[u32], clauses: usize) -> bool
     requires { clauses + 4 ≤ length book.now }
     ensures { result ≡ rising book.now 0 clauses }
 {
-    book[3..clauses + 4].is_sorted()
+    book[3..clauses + 4].is_sorted_by(|start, next| start <= next)
 }
 
 // The literals of clause c.

@@ -3,14 +3,11 @@ use Prim.Native.Nat.{ℕ, zero, suc, ◌+◌, ◌-◌, ◌≤◌, ◌<◌}
 use mathlib.Core.Bool.{Bool, true, false}
 use mathlib.Core.List.{List}
 use mathlib.Core.Path.{◌≡◌, refl, sym, ◌∙◌}
-use Rattle.std.specs.Prelude.{MatchBool, Some}
-use Rattle.std.specs.Ordering.{nat_cmp, is_some_and, is_le}
 use Rattle.std.specs.List.{IsAllAdjacentAnswer}
-use Rattle.std.proofs.lemmas.List.Sorted.{non_decreasing_from_is_sorted}
-use Rattle.std.specs.List.Sorted.{IsNonDecreasing}
 use native.Mathlib.Omega.{arith}
 use native.Mathlib.Numerals.{add-one}
-use borrow.Author.Tests.{le-leb}
+use borrow.Author.Tests.{le-leb, leb-true, leb-false}
+use lib.Dec.{leb}
 use lib.ListN.{length, get_or, drop}
 use lib.Seq.{get_or-take, get_or-drop}
 use Rattle.base.proofs.Bools.{refuted}
@@ -35,7 +32,7 @@ rising_from numbers c (suc n) up =
     rw (le-leb _ _ (up c (omega arith) (omega arith)))
     (rising_from numbers (suc c) n (λ k low high. up k (omega arith) (omega arith)))
 
--- what `is_sorted` says of the starts of n clauses
+-- what `is_sorted_by` says of the starts of n clauses
 module _ (numbers : List ℕ) (n : ℕ) (room : n + 4 ≤ length numbers) where
   abbrev starts_read : List ℕ
   starts_read = part 3 (n + 4) numbers
@@ -46,24 +43,18 @@ module _ (numbers : List ℕ) (n : ℕ) (room : n + 4 ≤ length numbers) where
   start_read : (k : ℕ) → k < n + 1 → get_or starts_read k 0 ≡ start_of numbers k
   start_read k h = get_or-take (n + 4 - 3) (drop 3 numbers) k 0 (omega arith) ∙ get_or-drop 3 numbers k 0
 
-  pub sorted_rising : (sorted : Bool)
-      → MatchBool sorted (IsNonDecreasing starts_read) ((k : ℕ) × (k + 1 < length starts_read) × ((d : ℕ) → get_or starts_read (k + 1) d < get_or starts_read k d))
-      → sorted ≡ rising numbers 0 n
+  pub sorted_rising : (sorted : Bool) → IsAllAdjacentAnswer (λ x y b. b ≡ leb x y) starts_read sorted → sorted ≡ rising numbers 0 n
   sorted_rising true up = sym (rising_from numbers 0 n up_by)
     where
       up_by : (k : ℕ) → 0 ≤ k → k < 0 + n → start_of numbers k ≤ start_of numbers (suc k)
       up_by k low high =
-          omega (arith, up k (suc k) 0 (omega arith) (omega (arith, starts_long)), start_read k (omega arith), start_read (suc k) (omega arith))
+          let next : get_or starts_read (k + 1) 0 ≡ start_of numbers (suc k) = rw add-one (start_read (suc k) (omega arith)) in
+          omega (arith, leb-true _ _ (sym (up k 0 (omega (arith, starts_long)))), next, start_read k (omega arith))
   sorted_rising false (k, inside, down) =
       let below : k < n = omega (arith, starts_long) in
       let next : get_or starts_read (k + 1) 0 ≡ start_of numbers (suc k) = rw add-one (start_read (suc k) (omega arith)) in
-      let falls : start_of numbers (suc k) < start_of numbers k = omega (arith, down 0, next, start_read k (omega arith)) in
+      let falls : start_of numbers (suc k) < start_of numbers k = omega (arith, leb-false _ _ (sym (down 0)), next, start_read k (omega arith)) in
       sym (refuted _ (λ rises. omega (arith, falls, rising_step numbers 0 n rises k (omega arith) (omega arith))))
-
-  -- the answer of `is_sorted` itself
-  pub is_sorted_rising : (sorted : Bool) → IsAllAdjacentAnswer (λ x y b. is_some_and is_le (Some (nat_cmp x y)) ≡ b) starts_read sorted
-      → sorted ≡ rising numbers 0 n
-  is_sorted_rising sorted said = sorted_rising sorted (non_decreasing_from_is_sorted starts_read sorted said)
 
 module _ (numbers : List ℕ) (c n : ℕ) where
   module _ (variables : ℕ) where
