@@ -18,8 +18,7 @@ pub(crate) fn wide(x: u32) -> usize
 
 // The number at a place, 0 where there is none.
 fn number_at(book: &[u32], place: usize) -> usize
-    ensures value { result ≡ get_or book.now place 0 }
-    ensures upper_bound { result < 4294967296 }
+    ensures { result ≡ get_or book.now place 0 }
 {
     book.get(place).copied().unwrap_or(0) as usize
 }
@@ -112,9 +111,9 @@ fn clauses_sound(book: &[u32], variables: usize, clauses: usize) -> bool
 pub fn well_formed(book: &[u32]) -> bool
     ensures { result ≡ well_formed book.now }
 {
-    let variables = number_at(book, 0);
-    let clauses = number_at(book, 1);
-    let literals = number_at(book, 2);
+    let variables = variables(book);
+    let clauses = clauses(book);
+    let literals = literals(book);
     book.len() >= clauses + literals + 4
         && number_at(book, 3) == 0
         && number_at(book, 3 + clauses) == literals
