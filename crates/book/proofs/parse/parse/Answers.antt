@@ -1,6 +1,5 @@
 use mathlib.Core.Path.{refl, ap, sym, ◌∙◌}
 use mathlib.Core.List.{map}
-use native.Mathlib.Omega.{arith}
 use lib.ListN.{length-set, length-map}
 use Rattle.refusals.specs.Refusals.{number_of}
 use Rattle.book.specs.Reading.{as_read, read_formula, refused}
@@ -21,9 +20,6 @@ returns-then-variables-eq0 c =
       | then-variables-eq0-via-else-variables-eq0+then-variables-gt-MAX_VARIABLES w ↦ outside_variables _ _ w.if-variables-gt-MAX_VARIABLES.true
       | then-variables-eq0-via-else-variables-eq0+else-variables-gt-MAX_VARIABLES+then-clauses-gt-MAX_CLAUSES w ↦ outside_clauses _ _ w.if-clauses-gt-MAX_CLAUSES.true
     ])
-
-pub clauses_at-requires : goal.clauses_at-requires
-clauses_at-requires c = (c.in-Found.ensures.0, omega arith, omega arith, c.requires)
 
 pub of_clauses-requires : goal.of_clauses-requires
 of_clauses-requires c = walk_refuses _ _ _ _ _ _ c.in-Refused.ensures
