@@ -56,19 +56,18 @@ module _ (numbers : List ℕ) (n : ℕ) (room : n + 4 ≤ length numbers) where
       let falls : start_of numbers (suc k) < start_of numbers k = omega (arith, leb-false _ _ (sym (down 0)), next, start_read k (omega arith)) in
       sym (refuted _ (λ rises. omega (arith, falls, rising_step numbers 0 n rises k (omega arith) (omega arith))))
 
-module _ (numbers : List ℕ) (c n : ℕ) where
-  module _ (variables : ℕ) where
-    pub clauses_more : c < n → sound_clause variables (clause_at numbers c) ≡ true
-        → all (sound_clause variables) (clauses_from numbers c (n - c))
-        ≡ all (sound_clause variables) (clauses_from numbers (c + 1) (n - (c + 1)))
-    unfolding all clauses_from
-    clauses_more h ok = rw (one_more_lem c n h, ok, add-one)
+module _ (numbers : List ℕ) (c n variables : ℕ) where
+  pub clauses_more : c < n → sound_clause variables (clause_at numbers c) ≡ true
+      → all (sound_clause variables) (clauses_from numbers c (n - c))
+      ≡ all (sound_clause variables) (clauses_from numbers (c + 1) (n - (c + 1)))
+  unfolding all clauses_from
+  clauses_more h ok = rw (one_more_lem c n h, ok, add-one)
 
-    pub clauses_stop : c < n → sound_clause variables (clause_at numbers c) ≡ false
-        → all (sound_clause variables) (clauses_from numbers c (n - c)) ≡ false
-    unfolding all clauses_from
-    clauses_stop h bad = rw (one_more_lem c n h, bad)
+  pub clauses_stop : c < n → sound_clause variables (clause_at numbers c) ≡ false
+      → all (sound_clause variables) (clauses_from numbers c (n - c)) ≡ false
+  unfolding all clauses_from
+  clauses_stop h bad = rw (one_more_lem c n h, bad)
 
-    pub clauses_end : n ≤ c → all (sound_clause variables) (clauses_from numbers c (n - c)) ≡ true
-    unfolding all clauses_from
-    clauses_end h = rw (none_left c n h)
+  pub clauses_end : n ≤ c → all (sound_clause variables) (clauses_from numbers c (n - c)) ≡ true
+  unfolding all clauses_from
+  clauses_end h = rw (none_left c n h)
