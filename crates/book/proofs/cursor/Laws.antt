@@ -1,16 +1,22 @@
 -- Steps of the cursor along the text, as its loops over an index meet them.
-use Prim.Native.Nat.{ℕ, suc, ◌+◌, ◌-◌, ◌≤◌, ◌<◌}
+use Prim.Native.Nat.{ℕ, zero, suc, min, ◌+◌, ◌-◌, ◌≤◌, ◌<◌}
 use mathlib.Core.Path.{◌≡◌, refl, ap, sym, ◌∙◌}
-use mathlib.Core.Bool.{Bool, true, false, cond, false≢true}
+use mathlib.Core.Bool.{Bool, true, false, cond, not, ◌&&◌, false≢true}
 use mathlib.Core.List.{List, [], ◌∷◌, ◌++◌, map}
+use native.Mathlib.Nat.{add-zero}
 use native.Mathlib.Numerals.{add-one}
 use native.Mathlib.Omega.{arith}
-use borrow.Author.Tests.{eq-eqb, ne_eqb, ltb-true, ltb-false}
-use lib.Dec.{ltb}
+use borrow.Author.Tests.{eq-eqb, ne_eqb, eqb-true, eqb-false, ltb-true, ltb-false}
+use lib.Dec.{ltb, eqb}
 use lib.ListN.{length, get_or, take, drop, length-drop, drop_of_length-le}
 use lib.Seq.{drop-cons, drop-drop}
+use Rattle.std.specs.List.{prefix_len}
+use Rattle.std.proofs.lemmas.Bool.{not-true}
+use Rattle.std.proofs.lemmas.List.{get_or-drop}
+use Rattle.std.proofs.lemmas.List.Sums.{prefix_len_passes, prefix_len_stops, prefix_len-le-length}
 use Rattle.base.specs.Lists.{until, begins}
 use Rattle.base.proofs.Lists.{begins_at, begins_end}
+use Rattle.base.proofs.Bools.{and_parts}
 use Rattle.base.proofs.Until.{until_stop, until_more, take-until, until_within}
 use Rattle.book.specs.Text.{Piece, Token, blank, line_end, token_of}
 use Rattle.book.specs.Inner.Walk.{tokens_of, walk_start}
@@ -18,26 +24,16 @@ use Rattle.book.specs.Inner.Words.{words_here, words_start, words_line, words_be
 use Rattle.book.specs.Inner.Cursor.{LineStart, GapEnd, SpaceEnd, tokens_here, NextWord, NoWord, NextInLine, LineEnds}
 use Rattle.book.proofs.WordLaws.{here_none, here_end, here_blank, here_word, line_none, line_end_lem, line_blank, line_word, behind_byte, behind_word, start_plain, start_skipped, walk_skipped}
 
--- the line with its byte 10 is the line and that byte, if the text goes on behind the line
-pub line_closed : (t : List ℕ) → length (until line_end t) < length t → line_length t ≡ suc (length (until line_end t))
+-- the line with its byte 10 is the line and one byte more, where the text goes on behind the line
+pub line_reach : (t : List ℕ) → line_length t ≡ min (length t) (length (until line_end t) + 1)
 unfolding line_length until
-line_closed [] h = absurd (omega arith)
-line_closed (b ∷ t) h = go (line_end b) refl (line_closed t)
+line_reach [] = refl
+line_reach (b ∷ t) = go (line_end b) (line_reach t)
   where
-    go : (e : Bool) → line_end b ≡ e → (length (until line_end t) < length t → line_length t ≡ suc (length (until line_end t)))
-        → line_length (b ∷ t) ≡ suc (length (until line_end (b ∷ t)))
-    go true e rest = rw e
-    go false e rest = rw e (ap suc (rest (omega (arith, rw e at h))))
-
-pub line_open_lem : (t : List ℕ) → length t ≤ length (until line_end t) → line_length t ≡ length (until line_end t)
-unfolding line_length until
-line_open_lem [] h = refl
-line_open_lem (b ∷ t) h = go (line_end b) refl (line_open_lem t)
-  where
-    go : (e : Bool) → line_end b ≡ e → (length t ≤ length (until line_end t) → line_length t ≡ length (until line_end t))
-        → line_length (b ∷ t) ≡ length (until line_end (b ∷ t))
-    go true e rest = absurd (omega (arith, rw e at h))
-    go false e rest = rw e (ap suc (rest (omega (arith, rw e at h))))
+    go : (e : Bool) → line_length t ≡ min (length t) (length (until line_end t) + 1)
+        → cond e 1 (suc (line_length t)) ≡ min (suc (length t)) (length (cond e [] (b ∷ until line_end t)) + 1)
+    go true rest = omega arith
+    go false rest = omega arith
 
 line_within_lem : (t : List ℕ) → line_length t ≤ length t
 unfolding line_length
@@ -201,6 +197,10 @@ pub record Space (text : List ℕ) (at i : ℕ) : Type 0 where
   pub same_line : words_line at (drop at text) ≡ words_line i (drop i text)
   pub same_behind : words_behind at (drop at text) ≡ words_behind i (drop i text)
 
+-- a blank of a line
+abbrev pub is_space : ℕ → Bool
+is_space byte = not (eqb byte 10) && blank byte
+
 pub space_none : (text : List ℕ) (at : ℕ) → at ≤ length text → Space text at at
 space_none text at h = record { ahead = omega arith; within = h; same_line = refl; same_behind = refl }
 
@@ -216,17 +216,43 @@ module _ {text : List ℕ} {at i : ℕ} (s : Space text at i) where
         same_behind = s.same_behind ∙ ap (words_behind i) cons ∙ behind_byte i (get_or text i 0) (drop (suc i) text) (ne_eqb (get_or text i 0) 10 n) ∙ rw (add-one i);
       }
 
-  space_ends : (i < length text → blank (get_or text i 0) ≡ true → get_or text i 0 ≡ 10) → SpaceEnd text at i
+  pub space_ends : (i < length text → blank (get_or text i 0) ≡ true → get_or text i 0 ≡ 10) → SpaceEnd text at i
   space_ends e = record { ahead = s.ahead; within = s.within; same_line = s.same_line; same_behind = s.same_behind; at_end = e }
 
-  pub space_ends_line : get_or text i 0 ≡ 10 → SpaceEnd text at i
-  space_ends_line e = space_ends (λ h b. e)
+space_parts : (b : ℕ) → is_space b ≡ true → (b ≡ 10 → ⊥) × (blank b ≡ true)
+space_parts b e =
+    let parts = and_parts (not (eqb b 10)) (blank b) e in
+    (eqb-false b 10 (not-true (eqb b 10) parts.0), parts.1)
 
-  pub space_ends_word : blank (get_or text i 0) ≡ false → SpaceEnd text at i
-  space_ends_word e = space_ends (λ h b. absurd (false≢true (sym e ∙ b)))
+space_stops : (b : ℕ) → is_space b ≡ false → blank b ≡ true → b ≡ 10
+space_stops b e is = go (eqb b 10) refl
+  where
+    go : (t : Bool) → eqb b 10 ≡ t → b ≡ 10
+    go true q = eqb-true b 10 q
+    go false q = absurd (false≢true (sym (rw (q, is) at e)))
 
-  pub space_ends_last : length text ≤ i → SpaceEnd text at i
-  space_ends_last e = space_ends (λ h b. absurd (omega arith))
+-- n bytes more that are blanks of the line
+space_blanks : {text : List ℕ} {at : ℕ} (n i : ℕ) → Space text at i → i + n ≤ length text
+    → ((k : ℕ) → k < n → is_space (get_or text (i + k) 0) ≡ true) → Space text at (i + n)
+space_blanks zero i s h passes = rw add-zero s
+space_blanks {text = text} {at = at} (suc n) i s h passes =
+    let first = space_parts (get_or text i 0) (rw add-zero at (passes 0 (omega arith))) in
+    let more : Space text at (i + 1) = space_blank s (omega arith) first.0 first.1 in
+    let place : (k : ℕ) → i + suc k ≡ i + 1 + k = λ k. omega arith in
+    rw (place n)
+    (space_blanks {text = text} {at = at} n (i + 1) more (omega arith) (λ (k : ℕ) (h : k < n). rw (place k) at (passes (suc k) (omega arith))))
+
+-- the blanks of the line from `at` on, as the iterator takes them
+pub spaces_end : (text : List ℕ) (at : ℕ) → at ≤ length text → SpaceEnd text at (at + prefix_len is_space (drop at text))
+spaces_end text at h =
+    let n = prefix_len is_space (drop at text) in
+    let within : n ≤ length text - at = rw (length-drop at text) at (prefix_len-le-length is_space (drop at text)) in
+    let spaces : Space text at (at + n)
+    = space_blanks n at (space_none text at h) (omega arith) (λ (k : ℕ) (h : k < n). rw (get_or-drop at text k 0) at (prefix_len_passes is_space (drop at text) k 0 h)) in
+    space_ends spaces
+    (λ (inside : at + n < length text).
+    space_stops (get_or text (at + n) 0)
+    (rw (get_or-drop at text n 0) at (prefix_len_stops is_space (drop at text) 0 (rw (length-drop at text) (omega arith)))))
 
 module _ {text : List ℕ} {at from : ℕ} (s : SpaceEnd text at from) where
   -- no word begins at `from`: the line ends there

@@ -11,6 +11,6 @@ pub returns : goal.returns
 returns c =
     let text = c.args.text.now in
     let count =
-      count_from_yields_List c.take_while.result _ c.count.ensures.ran
-      (YieldsList-from_take_while _ (λ (b : ℕ). not (blank b)) (YieldsList-from_slice (take (length text - c.args.at) (drop c.args.at text)) (cc)) c.take_while.ensures.closure c.take_while.ensures.done (λ x b q k. search (rules, tests))) in
+    count_from_yields_List c.take_while.result _ c.count.ensures.ran
+    (YieldsList-from_take_while _ (λ (b : ℕ). not (blank b)) (YieldsList-from_slice (take (length text - c.args.at) (drop c.args.at text)) (cc)) c.take_while.ensures.closure c.take_while.ensures.done (λ x b q k. search (rules, tests))) in
     ap (λ (n : ℕ). c.args.at + n) (count ∙ count_until blank text c.args.at)
