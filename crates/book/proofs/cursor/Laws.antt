@@ -10,6 +10,7 @@ use borrow.Author.Tests.{eq-eqb, ne_eqb, eqb-true, eqb-false, ltb-true, ltb-fals
 use lib.Dec.{ltb, eqb}
 use lib.ListN.{length, get_or, take, drop, length-drop, drop_of_length-le}
 use lib.Seq.{drop-cons, drop-drop}
+use Rattle.std.specs.Prelude.{Option, Some, None}
 use Rattle.std.specs.List.{prefix_len}
 use Rattle.std.proofs.lemmas.Bool.{not-true}
 use Rattle.std.proofs.lemmas.List.{get_or-drop}
@@ -21,7 +22,7 @@ use Rattle.base.proofs.Until.{until_stop, until_more, take-until, until_within}
 use Rattle.book.specs.Text.{Piece, Token, blank, line_end, token_of}
 use Rattle.book.specs.Inner.Walk.{tokens_of, walk_start}
 use Rattle.book.specs.Inner.Words.{words_here, words_start, words_line, words_behind, line_length}
-use Rattle.book.specs.Inner.Cursor.{LineStart, GapEnd, SpaceEnd, tokens_here, NextWord, NoWord, NextInLine, LineEnds}
+use Rattle.book.specs.Inner.Cursor.{LineStart, GapEnd, SpaceEnd, WordAt, Stepped, SteppedInLine, tokens_here}
 use Rattle.book.proofs.WordLaws.{here_none, here_end, here_blank, here_word, line_none, line_end_lem, line_blank, line_word, behind_byte, behind_word, start_plain, start_skipped, walk_skipped}
 
 -- the line with its byte 10 is the line and one byte more, where the text goes on behind the line
@@ -170,25 +171,56 @@ module _ (text : List ℕ) (start end : ℕ) (h : start < length text) (w : blan
   behind_at =
       behind_word start (drop start text) ∙ rw (← e, drop-drop (length (until blank (drop start text))) start text, ← e)
 
-module _ {text : List ℕ} {at start : ℕ} (g : GapEnd text at start) where
-  pub no_word : length text ≤ start → NoWord text at start
-  unfolding tokens_of
-  no_word h =
-      record {
-        at_end = omega (arith, g.within);
-        tokens = ap tokens_of (g.same_words ∙ ap (words_here start) (drop_of_length-le text h) ∙ here_none start);
-      }
+-- where a word begins there is a byte that is no blank, and where none begins there is none
+begins_word : (text : List ℕ) (from next : ℕ) → next ≡ from + length (until blank (drop from text)) → from < next
+    → (from < length text) × (blank (get_or text from 0) ≡ false)
+unfolding until
+begins_word text from next e n = go (ltb from (length text)) refl
+  where
+    inside : from < length text → (b : Bool) → blank (get_or text from 0) ≡ b → blank (get_or text from 0) ≡ false
+    inside w true q =
+        let none : until blank (drop from text) ≡ [] = ap (until blank) (drop-cons text from 0 w) ∙ until_stop blank (get_or text from 0) (drop (suc from) text) q in
+        absurd (omega (arith, ap length none))
+    inside w false q = q
 
-  -- the first word from `at` on, its token, and what follows it
-  pub next_word : (end : ℕ) (token : Token) → start < length text → end ≡ start + length (until blank (drop start text))
-      → token ≡ token_of (take (end - start) (drop start text)) → NextWord text at token end
-  unfolding tokens_of
-  next_word end token h e is =
-      record {
-        ahead = omega (arith, g.ahead, word_ahead text start end h (g.at_word h) e);
-        within = rw e (until_within blank text start g.within);
-        tokens = ap tokens_of (g.same_words ∙ here_at text start end h (g.at_word h) e) ∙ ap (λ (k : Token). k ∷ tokens_here text end) (sym is);
-      }
+    go : (b : Bool) → ltb from (length text) ≡ b → (from < length text) × (blank (get_or text from 0) ≡ false)
+    go true q = (ltb-true from (length text) q, inside (ltb-true from (length text) q) (blank (get_or text from 0)) refl)
+    go false q =
+        let none : until blank (drop from text) ≡ [] = ap (until blank) (drop_of_length-le text (ltb-false from (length text) q)) in
+        absurd (omega (arith, ap length none))
+
+begins_none : (text : List ℕ) (from next : ℕ) → next ≡ from + length (until blank (drop from text)) → next ≡ from
+    → from < length text → blank (get_or text from 0) ≡ true
+begins_none text from next e h w = go (blank (get_or text from 0)) refl
+  where
+    go : (b : Bool) → blank (get_or text from 0) ≡ b → blank (get_or text from 0) ≡ true
+    go true q = q
+    go false q = absurd (omega (arith, word_ahead text from next w q e))
+
+-- a step from `at`: over a gap, and over the word that ends it
+pub stepped : {text : List ℕ} {at start : ℕ} → GapEnd text at start → (word : Option (List ℕ)) (next : ℕ)
+    → next ≡ start + length (until blank (drop start text)) → WordAt text start word next → Stepped text at word next
+unfolding tokens_of
+stepped {text} {at} {start} g (Some word) next e w =
+    let begins = begins_word text start next e w.0 in
+    record {
+      ahead = omega (arith, g.ahead, w.0);
+      within = rw e (until_within blank text start g.within);
+      tokens = ap tokens_of (g.same_words ∙ here_at text start next begins.0 begins.1 e) ∙ ap (λ (k : Token). k ∷ tokens_here text next) (ap token_of (sym w.1));
+    }
+stepped {text} {at} {start} g None next e w =
+    let last : length text ≤ start = end (ltb start (length text)) refl in
+    rw w
+    (record {
+      at_end = omega (arith, g.within);
+      tokens = ap tokens_of (g.same_words ∙ ap (words_here start) (drop_of_length-le text last) ∙ here_none start);
+    })
+  where
+    end : (b : Bool) → ltb start (length text) ≡ b → length text ≤ start
+    end true q =
+        let inside : start < length text = ltb-true start (length text) q in
+        absurd (false≢true (sym (g.at_word inside) ∙ begins_none text start next e w inside))
+    end false q = ltb-false start (length text) q
 
 -- From `at` inside a line, there is no word of the line before i.
 pub record Space (text : List ℕ) (at i : ℕ) : Type 0 where
@@ -260,54 +292,29 @@ module _ {text : List ℕ} {at from : ℕ} (s : SpaceEnd text at from) where
   unfolding line_end
   ends_here next e h = go (ltb from (length text)) refl
     where
-      stops : from < length text → (b : Bool) → blank (get_or text from 0) ≡ b → words_line from (drop from text) ≡ []
-      stops w true q =
-          ap (words_line from) (drop-cons text from 0 w) ∙ line_end_lem from (get_or text from 0) (drop (suc from) text) (eq-eqb (get_or text from 0) 10 (s.at_end w q))
-      stops w false q =
-          let cons : drop from text ≡ get_or text from 0 ∷ drop (suc from) text = drop-cons text from 0 w in
-          let long : length (until blank (drop from text)) ≡ suc (length (until blank (drop (suc from) text)))
-          = ap length (ap (until blank) cons ∙ until_more blank (get_or text from 0) (drop (suc from) text) q) in
-          absurd (omega arith)
-
       go : (b : Bool) → ltb from (length text) ≡ b → words_line from (drop from text) ≡ []
-      go true q = stops (ltb-true from (length text) q) (blank (get_or text from 0)) refl
+      go true q =
+          let w : from < length text = ltb-true from (length text) q in
+          ap (words_line from) (drop-cons text from 0 w)
+          ∙ line_end_lem from (get_or text from 0) (drop (suc from) text) (eq-eqb (get_or text from 0) 10 (s.at_end w (begins_none text from next e h w)))
       go false q = ap (words_line from) (drop_of_length-le text (ltb-false from (length text) q)) ∙ line_none from
 
-  pub line_ends : (next : ℕ) → next ≡ from + length (until blank (drop from text)) → next ≡ from → LineEnds text at from
+  -- a step in the line from `at`: over its blanks, and over the word that ends them
+  pub stepped_in_line : (word : Option (List ℕ)) (next : ℕ) → next ≡ from + length (until blank (drop from text)) → WordAt text from word next
+      → SteppedInLine text at word next
   unfolding words_here
-  line_ends next e h =
-      let none : words_line from (drop from text) ≡ [] = ends_here next e h in
+  stepped_in_line (Some word) next e w =
+      let begins = begins_word text from next e w.0 in
       record {
+        within = rw e (until_within blank text from s.within);
+        words = ap (map (λ (p : Piece). p.bytes)) (s.same_line ∙ line_at text from next begins.0 begins.1 e) ∙ ap (λ (w : List ℕ). w ∷ map (λ (p : Piece). p.bytes) (words_line next (drop next text))) (sym w.1);
+        same_behind = s.same_behind ∙ behind_at text from next begins.0 begins.1 e;
+      }
+  stepped_in_line None next e w =
+      let none : words_line from (drop from text) ≡ [] = ends_here next e w in
+      rw w
+      (record {
         within = s.within;
         words = ap (map (λ (p : Piece). p.bytes)) (s.same_line ∙ none);
         tokens = ap tokens_of (ap (λ (ws : List Piece). ws ++ words_behind from (drop from text)) none ∙ sym s.same_behind);
-      }
-
-  -- a word begins at `from`
-  begins_here : (next : ℕ) → next ≡ from + length (until blank (drop from text)) → (next ≡ from → ⊥)
-      → (from < length text) × (blank (get_or text from 0) ≡ false)
-  unfolding until
-  begins_here next e n = go (ltb from (length text)) refl
-    where
-      inside : from < length text → (b : Bool) → blank (get_or text from 0) ≡ b → blank (get_or text from 0) ≡ false
-      inside w true q =
-          let none : until blank (drop from text) ≡ [] = ap (until blank) (drop-cons text from 0 w) ∙ until_stop blank (get_or text from 0) (drop (suc from) text) q in
-          absurd (n (omega (arith, ap length none)))
-      inside w false q = q
-
-      go : (b : Bool) → ltb from (length text) ≡ b → (from < length text) × (blank (get_or text from 0) ≡ false)
-      go true q = (ltb-true from (length text) q, inside (ltb-true from (length text) q) (blank (get_or text from 0)) refl)
-      go false q =
-          let none : until blank (drop from text) ≡ [] = ap (until blank) (drop_of_length-le text (ltb-false from (length text) q)) in
-          absurd (n (omega (arith, ap length none)))
-
-  pub next_in_line : (next : ℕ) → next ≡ from + length (until blank (drop from text)) → (next ≡ from → ⊥) → NextInLine text at from next
-  next_in_line next e n =
-      let h : from < length text = (begins_here next e n).0 in
-      let w : blank (get_or text from 0) ≡ false = (begins_here next e n).1 in
-      record {
-        ahead = omega arith;
-        within = rw e (until_within blank text from s.within);
-        words = ap (map (λ (p : Piece). p.bytes)) (s.same_line ∙ line_at text from next h w e);
-        same_behind = s.same_behind ∙ behind_at text from next h w e;
-      }
+      })
