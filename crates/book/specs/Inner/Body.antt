@@ -2,7 +2,7 @@
 use Rattle.std.specs.Prelude.{ℕ, suc, ◌+◌, ◌≡◌, cond, ◌&&◌, ◌⊎◌, Result, Ok, Err, List, [], ◌++◌, map, leb, ltb, eqb, length, take, drop}
 use Rattle.base.specs.Lists.{flat}
 use Rattle.refusals.specs.declared.Refusal.{Refusal}
-use Rattle.refusals.specs.declared.Refusal.TheVariants.{ClauseCount}
+use Rattle.refusals.specs.declared.Refusal.TheVariants.{LargeVariable, ClauseLength, ClauseCount, LiteralCount}
 use Rattle.refusals.specs.Refusals.{number_of}
 use Rattle.book.specs.Formula.{variable_of, max_clause, max_literals, max_book}
 use Rattle.book.specs.Numbers.{starts}
@@ -16,12 +16,12 @@ pub record Written (numbers : List ℕ) (clauses : ℕ) (done : List (List ℕ))
   pub starts_written : take (suc (length done)) (drop 3 numbers) ≡ starts 0 done
   pub literals_written : take (length (flat done ++ current)) (drop (clauses + 4) numbers) ≡ flat done ++ current
 
--- the number of the first fault of a literal, 0 where it has none: with so many clauses closed, literals in the open one, literals in all
-unfoldable pub literal_fault : ℕ → ℕ → ℕ → ℕ → ℕ → ℕ → ℕ
+-- the first fault of a literal, if it has one: with so many clauses closed, literals in the open one, literals in all
+unfoldable pub literal_fault : ℕ → ℕ → ℕ → ℕ → ℕ → ℕ → Result (Unit {0}) Refusal
 literal_fault variables clauses closed opened total l =
-    cond (ltb variables (variable_of l)) 5
-    (cond (eqb opened max_clause) 6
-    (cond (eqb opened 0 && leb clauses closed) 8 (cond (eqb total max_literals) 9 0)))
+    cond (ltb variables (variable_of l)) (Err LargeVariable)
+    (cond (eqb opened max_clause) (Err ClauseLength)
+    (cond (eqb opened 0 && leb clauses closed) (Err ClauseCount) (cond (eqb total max_literals) (Err LiteralCount) (Ok tt))))
 
 -- what the clauses are where the text ends: fault 8 where a clause is open or another number of them is closed, else all the literals up to the end
 abbrev pub EndSays : ℕ → ℕ → ℕ → ℕ → Result ℕ Refusal → Type 0

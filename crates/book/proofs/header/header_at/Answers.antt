@@ -9,9 +9,9 @@ use Rattle.book.proofs.header.header_at.Goals.{then-text-at-via-then-text-at, th
 pub returns-then-text-at : goal.returns-then-text-at
 returns-then-text-at c =
     elim c.then-text-at.branch [
-      then-text-at-via-then-text-at w ↦ malformed_first _ _ c.requires.1 (begins_end 112 c.args.text.now c.args.at w.if-text-at.true)
+      | then-text-at-via-then-text-at w ↦ malformed_first _ _ c.requires.1 (begins_end 112 c.args.text.now c.args.at w.if-text-at.true)
       | then-text-at-via-else-text-at+then-text-at-ne112 w ↦
-        malformed_first _ _ c.requires.1 (begins_at 112 c.args.text.now c.args.at (omega arith) ∙ ne_eqb _ _ w.if-text-at-ne112.true)
+          malformed_first _ _ c.requires.1 (begins_at 112 c.args.text.now c.args.at (omega arith) ∙ ne_eqb _ _ w.if-text-at-ne112.true)
     ]
 
 pub returns-in_err-behind_p : goal.returns-in_err-behind_p
@@ -36,7 +36,7 @@ pub returns-in-Some-default : goal.returns-in-Some-default
 returns-in-Some-default c =
     malformed_words _ _ c.requires.1
     (fifth_word c.in_ok-behind_p.ensures c.in_ok-behind_cnf.ensures c.in_ok-variables.ensures.0 c.in_ok-clauses.ensures.0
-      (rw c.in-Some-default.is-0 at c.next_in_line.ensures))
+    (rw c.in-Some-default.is-0 at c.next_in_line.ensures))
 
 pub returns-in-None-default : goal.returns-in-None-default
 returns-in-None-default c =
