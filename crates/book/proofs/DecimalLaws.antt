@@ -13,12 +13,16 @@ use Rattle.base.specs.Lists.{all, begins}
 use Rattle.base.proofs.Bools.{and_parts}
 use Rattle.book.specs.Text.{decimal, is_digit, unsigned, unsigned_token, token_of}
 use Rattle.book.specs.Answer.{digits_of}
-use Rattle.book.specs.declared.bytes.Digits.{Digits}
-use Rattle.book.specs.declared.bytes.Digits.TheVariants.{Value, Invalid}
+use Rattle.std.specs.Prelude.{Option, Some, None}
+use Rattle.std.proofs.lemmas.Bool.Decides.{nat_tests}
 
 pub digit_true : (b : ℕ) → 48 ≤ b → b ≤ 57 → is_digit b ≡ true
 unfolding is_digit
 digit_true b low high = rw (le-leb 48 b low, le-leb b 57 high)
+
+pub digit_false : (b : ℕ) → (48 ≤ b → 57 < b) → is_digit b ≡ false
+unfolding is_digit
+digit_false b h = grind (arith, nat_tests)
 
 pub digit_bounds : (b : ℕ) → is_digit b ≡ true → (48 ≤ b) × (b ≤ 57)
 unfolding is_digit
@@ -30,12 +34,16 @@ pub unsigned_false : (word : List ℕ) → all is_digit word ≡ false → unsig
 unfolding unsigned
 unsigned_false word e = rw e (and-false (leb 1 (length word) && leb (length word) 9))
 
-pub word_too_long : (word : List ℕ) → 9 < length word → Invalid ≡ digits_of word
+pub word_too_short : (word : List ℕ) → length word ≡ 0 → None ≡ digits_of word
+unfolding unsigned
+word_too_short word e = rw (lt-leb 1 (length word) (omega arith))
+
+pub word_too_long : (word : List ℕ) → 9 < length word → None ≡ digits_of word
 unfolding unsigned
 word_too_long word h = rw (le-leb 1 (length word) (omega arith), lt-leb (length word) 9 h)
 
 -- the digits behind the first n bytes of a word
-pub digits_behind : (n : ℕ) (word : List ℕ) (d : Digits) → d ≡ digits_of (take (length word - n) (drop n word)) → d ≡ digits_of (drop n word)
+pub digits_behind : (n : ℕ) (word : List ℕ) (d : Option ℕ) → d ≡ digits_of (take (length word - n) (drop n word)) → d ≡ digits_of (drop n word)
 digits_behind n word d e = rw (take_all (length word - n) (drop n word) (rw (length-drop n word) (omega arith))) at e
 
 -- decimal digits write less than a 1 with as many zeros
@@ -51,21 +59,21 @@ decimal_below (d ∷ digits) n e =
     rw (pow-suc 10 (length digits)) (omega arith)
 
 -- what an answer of `number` says of the word
-pub word_unsigned : (word : List ℕ) (v : ℕ) → Value v ≡ digits_of word → (unsigned word ≡ true) × (decimal 0 word ≡ v)
+pub word_unsigned : (word : List ℕ) (v : ℕ) → Some v ≡ digits_of word → (unsigned word ≡ true) × (decimal 0 word ≡ v)
 word_unsigned word v e = go (unsigned word) refl e
   where
-    go : (u : Bool) → unsigned word ≡ u → Value v ≡ cond u (Value (decimal 0 word)) Invalid → (unsigned word ≡ true) × (decimal 0 word ≡ v)
+    go : (u : Bool) → unsigned word ≡ u → Some v ≡ cond u (Some (decimal 0 word)) None → (unsigned word ≡ true) × (decimal 0 word ≡ v)
     go true q h = (q, (cc))
     go false q h = let z : ◌≡◌ {A = ℕ} 0 1 = cc in absurd (omega arith)
 
-pub word_not_unsigned : (word : List ℕ) → Invalid ≡ digits_of word → unsigned word ≡ false
+pub word_not_unsigned : (word : List ℕ) → None ≡ digits_of word → unsigned word ≡ false
 word_not_unsigned word e = go (unsigned word) refl e
   where
-    go : (u : Bool) → unsigned word ≡ u → Invalid ≡ cond u (Value (decimal 0 word)) Invalid → unsigned word ≡ false
+    go : (u : Bool) → unsigned word ≡ u → None ≡ cond u (Some (decimal 0 word)) None → unsigned word ≡ false
     go true q h = let z : ◌≡◌ {A = ℕ} 0 1 = cc in absurd (omega arith)
     go false q h = q
 
-pub value_below : (word : List ℕ) (v : ℕ) → Value v ≡ digits_of word → v < 1000000000
+pub value_below : (word : List ℕ) (v : ℕ) → Some v ≡ digits_of word → v < 1000000000
 unfolding unsigned
 value_below word v e =
     let u : unsigned word ≡ true = (word_unsigned word v e).0 in

@@ -1,18 +1,16 @@
 -- The answers of `number` and `read`, and the lent numbers afterwards: document 01's numbers and values for each case.
-use Rattle.std.specs.Prelude.{ℕ, cond, List, ◌++◌, ltb, length, drop, Result, Ok, Err}
+use Rattle.std.specs.Prelude.{ℕ, cond, Option, Some, None, List, ◌++◌, ltb, length, drop, Result, Ok, Err}
 use Rattle.refusals.specs.declared.Refusal.{Refusal}
 use Rattle.refusals.specs.Refusals.{refusal_of}
 use Rattle.book.specs.Formula.{literals}
 use Rattle.book.specs.Numbers.{numbers_of}
 use Rattle.book.specs.Text.{unsigned, decimal}
 use Rattle.book.specs.Reading.{Judged, refused, accepted}
-use Rattle.book.specs.declared.bytes.Digits.{Digits}
-use Rattle.book.specs.declared.bytes.Digits.TheVariants.{Value, Invalid}
 use Rattle.book.specs.declared.Sizes.{Sizes}
 
 -- The number that 1 to 9 digits write.
-abbrev pub digits_of : List ℕ → Digits
-digits_of word = cond (unsigned word) (Value (decimal 0 word)) Invalid
+abbrev pub digits_of : List ℕ → Option ℕ
+digits_of word = cond (unsigned word) (Some (decimal 0 word)) None
 
 -- A text that is accepted otherwise is refused by 10 where the lent numbers are too few; else the answer is V, C and L.
 abbrev pub read_answer : Judged → ℕ → Result Sizes Refusal

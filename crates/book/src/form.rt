@@ -9,13 +9,6 @@ ghost use Rattle.book.specs.Numbers.{variables_of, clauses_of, literals_of, clau
 use crate::limits::{MAX_CLAUSE, MAX_CLAUSES, MAX_LITERALS, MAX_VARIABLES, VARIABLE_MARKS};
 use crate::marks::mark;
 
-pub(crate) fn wide(x: u32) -> usize
-    ensures value { result ≡ x }
-    ensures upper_bound { result < 4294967296 }
-{
-    x as usize
-}
-
 // The number at a place, 0 where there is none.
 fn number_at(book: &[u32], place: usize) -> usize
     ensures { result ≡ get_or book.now place 0 }

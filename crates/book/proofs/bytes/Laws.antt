@@ -1,29 +1,38 @@
 -- The digits of a word as the loop over its bytes meets them, and the token of a word by its first byte.
 use Prim.Native.Nat.{ℕ, ◌+◌, ◌*◌, ◌-◌, ◌^◌, ◌≤◌, ◌<◌}
 use mathlib.Core.Path.{◌≡◌, refl, ap, sym, ◌∙◌}
-use mathlib.Core.Bool.{true, false}
+use mathlib.Core.Bool.{Bool, true, false, cond}
 use mathlib.Core.List.{List, [], ◌∷◌}
 use native.Mathlib.Nat.{pow-le-pow_right}
 use native.Mathlib.Numerals.{add-one}
 use native.Mathlib.Omega.{arith}
-use borrow.Author.Tests.{le-leb, lt-leb, eq-eqb, ne_eqb}
+use borrow.Author.Tests.{le-leb, eq-eqb, ne_eqb}
 use lib.Dec.{eqb}
-use lib.ListN.{length, get_or, drop, drop_of_length-le}
-use lib.Seq.{drop-cons}
-use Rattle.base.specs.Lists.{all}
-use Rattle.base.proofs.Lists.{begins_at}
-use Rattle.book.specs.Text.{decimal, is_digit, unsigned, literal, close, invalid, negative_token, unsigned_token, token_of}
+use lib.ListN.{length, get_or, take, drop, length-drop, drop_of_length-le}
+use lib.Seq.{drop-cons, take_all}
+use Rattle.std.specs.List.{take_while}
+use Rattle.std.specs.Prelude.{not}
+use Rattle.std.proofs.lemmas.List.Sums.{take_while-cons}
+use Rattle.base.specs.Lists.{until, all}
+use Rattle.book.specs.Text.{Token, decimal, is_digit, unsigned, literal, close, invalid, negative_token, unsigned_token, token_of}
 use Rattle.book.specs.Answer.{digits_of}
-use Rattle.book.specs.declared.bytes.Digits.TheVariants.{Value, Invalid}
-use Rattle.book.proofs.DecimalLaws.{digit_true, unsigned_false, word_unsigned, word_not_unsigned, token_plain}
+use Rattle.book.specs.Formula.{positive, negative}
+use Rattle.std.specs.Prelude.{Option, Some, None}
+use Rattle.book.proofs.DecimalLaws.{digit_true, digit_false, unsigned_false}
 
-pub digit_low : (b : ℕ) → b < 48 → is_digit b ≡ false
-unfolding is_digit
-digit_low b h = rw (lt-leb 48 b h)
+-- how many bytes the iterator takes from `at` on before the first that passes the test
+taken_until : (stop : ℕ → Bool) (xs : List ℕ) → take_while (λ (b : ℕ). not (stop b)) xs ≡ until stop xs
+unfolding until
+taken_until stop [] = refl
+taken_until stop (x ∷ xs) = take_while-cons (λ (b : ℕ). not (stop b)) x xs ∙ go (stop x) (taken_until stop xs)
+  where
+    go : (s : Bool) → take_while (λ (b : ℕ). not (stop b)) xs ≡ until stop xs
+        → cond (not s) (x ∷ take_while (λ (b : ℕ). not (stop b)) xs) [] ≡ cond s [] (x ∷ until stop xs)
+    go true e = refl
+    go false e = ap (λ (t : List ℕ). x ∷ t) e
 
-pub digit_high : (b : ℕ) → 57 < b → is_digit b ≡ false
-unfolding is_digit
-digit_high b h = rw (le-leb 48 b (omega arith), lt-leb b 57 h)
+pub count_until : (stop : ℕ → Bool) (text : List ℕ) (at : ℕ) → length (take_while (λ (b : ℕ). not (stop b)) (take (length text - at) (drop at text))) ≡ length (until stop (drop at text))
+count_until stop text at = rw (take_all (length text - at) (drop at text) (rw (length-drop at text) (omega arith))) (ap length (taken_until stop (drop at text)))
 
 -- what the loop knows at byte i: the rest of the word decides, from the value so far on
 pub record DigitsSoFar (word : List ℕ) (value i : ℕ) : Type 0 where
@@ -52,54 +61,59 @@ value_small {word} {value} {i} r h =
     let p : 10 ^ i ≤ 10 ^ 8 = pow-le-pow_right {n = 10} (omega arith) {i = i} {j = 8} (omega arith) in
     omega (arith, r.small)
 
-pub not_a_digit : {word : List ℕ} {value i : ℕ} → DigitsSoFar word value i → i < length word → is_digit (get_or word i 0) ≡ false
-    → Invalid ≡ digits_of word
+pub not_a_digit : {word : List ℕ} {value i : ℕ} → DigitsSoFar word value i → i < length word → (48 ≤ get_or word i 0 → 57 < get_or word i 0)
+    → None ≡ digits_of word
 unfolding all
 not_a_digit {word} {value} {i} r h e =
-    let bad : all is_digit word ≡ false = sym r.same_digits ∙ ap (all is_digit) (drop-cons word i 0 h) ∙ rw e in
+    let bad : all is_digit word ≡ false = sym r.same_digits ∙ ap (all is_digit) (drop-cons word i 0 h) ∙ rw (digit_false (get_or word i 0) e) in
     rw (unsigned_false word bad)
 
 pub all_digits : {word : List ℕ} {value i : ℕ} → DigitsSoFar word value i → length word ≤ i → 1 ≤ length word → length word ≤ 9
-    → Value value ≡ digits_of word
+    → Some value ≡ digits_of word
 unfolding all unsigned decimal
 all_digits {word} {value} {i} r h low high =
     let good : all is_digit word ≡ true = sym r.same_digits ∙ ap (all is_digit) (drop_of_length-le word h) in
     let is : decimal 0 word ≡ value = sym r.same_value ∙ ap (decimal value) (drop_of_length-le word h) in
     rw (le-leb 1 (length word) low, le-leb (length word) 9 high, good, is)
 
-pub word_too_short : (word : List ℕ) → length word ≡ 0 → Invalid ≡ digits_of word
-unfolding unsigned
-word_too_short word e = rw (lt-leb 1 (length word) (omega arith))
+-- what the number behind a `-` says, and a number without one
+abbrev pub signed : Option ℕ → Token
+signed None = invalid
+signed (Some v) = cond (eqb v 0) invalid (literal (2 * v + 1))
 
--- the token of a word that begins with `-`, and of one that does not
-pub token_signed : (word : List ℕ) → 0 < length word → get_or word 0 0 ≡ 45 → token_of word ≡ negative_token (drop 1 word)
-unfolding token_of
-token_signed [] h e = absurd (omega arith)
-token_signed (b ∷ word) h e = rw (eq-eqb b 45 e)
+abbrev pub plain : Option ℕ → Token
+plain None = invalid
+plain (Some v) = cond (eqb v 0) close (literal (2 * v))
 
-pub token_unsigned : (word : List ℕ) → 0 < length word → (get_or word 0 0 ≡ 45 → ⊥) → token_of word ≡ unsigned_token word
-token_unsigned word h e = token_plain word (begins_at 45 word 0 h ∙ ne_eqb (get_or word 0 0) 45 e)
+signed_digits : (digits : List ℕ) → signed (digits_of digits) ≡ negative_token digits
+unfolding negative_token
+signed_digits digits = go (unsigned digits)
+  where
+    go : (u : Bool) → signed (cond u (Some (decimal 0 digits)) None)
+        ≡ cond u (cond (eqb (decimal 0 digits) 0) invalid (literal (negative (decimal 0 digits)))) invalid
+    go true = refl
+    go false = refl
 
-pub token_empty : (word : List ℕ) → length word ≡ 0 → token_of word ≡ invalid
+plain_digits : (digits : List ℕ) → plain (digits_of digits) ≡ unsigned_token digits
+unfolding unsigned_token
+plain_digits digits = go (unsigned digits)
+  where
+    go : (u : Bool) → plain (cond u (Some (decimal 0 digits)) None)
+        ≡ cond u (cond (eqb (decimal 0 digits) 0) close (literal (positive (decimal 0 digits)))) invalid
+    go true = refl
+    go false = refl
+
+-- the token of a word without bytes, of one that begins with `-`, by the answer to what is behind it, and of another one, by the answer to the word
+pub token_empty : (word : List ℕ) → length word ≡ 0 → invalid ≡ token_of word
 unfolding token_of
 token_empty [] e = refl
-token_empty (b ∷ word) e = absurd (omega arith)
+token_empty (b ∷ bytes) e = absurd (omega arith)
 
-module _ (digits : List ℕ) where
-  pub not_digits : Invalid ≡ digits_of digits → (negative_token digits ≡ invalid) × (unsigned_token digits ≡ invalid)
-  unfolding negative_token unsigned_token
-  not_digits e = (rw (word_not_unsigned digits e), rw (word_not_unsigned digits e))
+module _ (word : List ℕ) (b : ℕ) (bytes : List ℕ) (d : Option ℕ) (parts : word ≡ b ∷ bytes) where
+  pub token_signed : b ≡ 45 → d ≡ digits_of bytes → signed d ≡ token_of word
+  unfolding token_of
+  token_signed e answer = rw (parts, eq-eqb b 45 e) (ap signed answer ∙ signed_digits bytes)
 
-  pub zero_digits : (v : ℕ) → Value v ≡ digits_of digits → v ≡ 0 → (negative_token digits ≡ invalid) × (unsigned_token digits ≡ close)
-  unfolding negative_token unsigned_token
-  zero_digits v e z =
-      let is : eqb (decimal 0 digits) 0 ≡ true = eq-eqb (decimal 0 digits) 0 ((word_unsigned digits v e).1 ∙ z) in
-      (rw ((word_unsigned digits v e).0, is), rw ((word_unsigned digits v e).0, is))
-
-  pub some_digits : (v : ℕ) → Value v ≡ digits_of digits → (v ≡ 0 → ⊥) → (negative_token digits ≡ literal (2 * v + 1)) × (unsigned_token digits ≡ literal (2 * v))
-  unfolding negative_token unsigned_token
-  some_digits v e z =
-      let is : eqb (decimal 0 digits) 0 ≡ false = ne_eqb (decimal 0 digits) 0 (λ q. z (sym (word_unsigned digits v e).1 ∙ q)) in (
-        rw ((word_unsigned digits v e).0, is, (word_unsigned digits v e).1),
-        rw ((word_unsigned digits v e).0, is, (word_unsigned digits v e).1),
-      )
+  pub token_unsigned : (b ≡ 45 → ⊥) → d ≡ digits_of word → plain d ≡ token_of word
+  unfolding token_of
+  token_unsigned e answer = ap plain answer ∙ plain_digits word ∙ rw (parts, ne_eqb b 45 e)

@@ -1,37 +1,30 @@
-use native.Mathlib.Omega.{arith}
-use borrow.Author.Rules.{rules}
-use Rattle.book.proofs.DecimalLaws.{word_too_long}
-use Rattle.book.proofs.bytes.Laws.{digits_start, digits_step, value_small, digit_low, digit_high, not_a_digit, all_digits, word_too_short}
+use Rattle.std.proofs.Common.{arith, rules}
+use Rattle.book.proofs.DecimalLaws.{word_too_short, word_too_long}
+use Rattle.book.proofs.bytes.Laws.{digits_step, value_small, not_a_digit, all_digits}
 use Rattle.book.proofs.bytes.number.Goals as goal
+use Rattle.book.proofs.bytes.number.Goals.{then-is_empty-via-then-is_empty, then-is_empty-via-else-is_empty+then-word-gt-MAX_DIGITS}
 
-pub returns-then-n-eq0 : goal.returns-then-n-eq0
-returns-then-n-eq0 c = word_too_short c.args.word.now c.if-n-eq0.true
+pub returns-then-is_empty : goal.returns-then-is_empty
+returns-then-is_empty c =
+    elim c.then-is_empty.branch [
+      | then-is_empty-via-then-is_empty w ↦ word_too_short _ (search rules)
+      | then-is_empty-via-else-is_empty+then-word-gt-MAX_DIGITS w ↦ word_too_long _ w.if-word-gt-MAX_DIGITS.true
+    ]
 
-pub returns-then-n-gt-MAX_DIGITS : goal.returns-then-n-gt-MAX_DIGITS
-returns-then-n-gt-MAX_DIGITS c = word_too_long c.args.word.now c.if-n-gt-MAX_DIGITS.true
+pub returns-in_default : goal.returns-in_default
+returns-in_default c = not_a_digit c.loop-byte.invariant (omega arith) (omega arith)
 
-pub loop-i-init : goal.loop-i-init
-loop-i-init c = digits_start c.args.word.now
-
-pub wide-digit-requires : goal.wide-digit-requires
-wide-digit-requires c = tt
-
-pub returns-then-digit-lt48 : goal.returns-then-digit-lt48
-returns-then-digit-lt48 c = not_a_digit c.loop-i.invariant (search rules) (digit_low _ (omega arith))
-
-pub returns-then-digit-gt57 : goal.returns-then-digit-gt57
-returns-then-digit-gt57 c = not_a_digit c.loop-i.invariant (search rules) (digit_high _ (omega arith))
+pub returns-in_default-2 : goal.returns-in_default-2
+returns-in_default-2 c = not_a_digit c.loop-byte.invariant (omega arith) (omega arith)
 
 pub overflow_mul-value : goal.overflow_mul-value
-overflow_mul-value c = omega (arith, value_small c.loop-i.invariant (omega arith))
+overflow_mul-value c = omega (arith, value_small c.loop-byte.invariant (omega arith))
 
 pub overflow_add-value : goal.overflow_add-value
-overflow_add-value c = omega (arith, value_small c.loop-i.invariant (omega arith))
+overflow_add-value c = omega (arith, value_small c.loop-byte.invariant (omega arith))
 
-pub loop-i-preserved : goal.loop-i-preserved
-loop-i-preserved c =
-    rw c.wide-digit.ensures
-    (digits_step c.loop-i.invariant (search rules) (omega arith) (omega arith))
+pub loop-byte-preserved : goal.loop-byte-preserved
+loop-byte-preserved c = rw c.from.ensures (digits_step c.loop-byte.invariant (omega arith) (omega arith) (omega arith))
 
 pub returns : goal.returns
-returns c = all_digits c.loop-i.invariant (search rules) (omega arith) (search rules)
+returns c = all_digits c.loop-byte.invariant (omega arith) (search rules) (omega arith)

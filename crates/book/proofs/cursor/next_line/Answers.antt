@@ -1,12 +1,11 @@
-use native.Mathlib.Omega.{arith}
-use lib.ListN.{drop, length-drop}
-use Rattle.book.proofs.cursor.Laws.{line_closed, line_open_lem}
+use Rattle.std.proofs.Common.{arith, drop, length-drop}
+use Rattle.base.proofs.Until.{until_within}
+use Rattle.book.specs.Text.{line_end}
+use Rattle.book.proofs.cursor.Laws.{line_reach}
 use Rattle.book.proofs.cursor.next_line.Goals as goal
 
-pub returns-then-end-text : goal.returns-then-end-text
-returns-then-end-text c =
-    omega (arith, c.line_end-end.ensures, line_closed (drop c.args.at c.args.text.now) (omega (arith, length-drop c.args.at c.args.text.now, c.line_end-end.ensures)))
+pub overflow_add-line_end : goal.overflow_add-line_end
+overflow_add-line_end c = omega (arith, c.line_end.ensures, until_within line_end c.args.text.now c.args.at c.requires)
 
 pub returns : goal.returns
-returns c =
-    omega (arith, c.line_end-end.ensures, line_open_lem (drop c.args.at c.args.text.now) (omega (arith, length-drop c.args.at c.args.text.now, c.line_end-end.ensures)))
+returns c = omega (arith, c.line_end.ensures, line_reach (drop c.args.at c.args.text.now), length-drop c.args.at c.args.text.now)
