@@ -120,18 +120,6 @@ module _ (text : List ℕ) (at i : ℕ) where
             ∙ start_plain r (drop r text) l.unskipped;
       }
 
-  pub gap_ends : Gap text at i → blank (get_or text i 0) ≡ false → GapEnd text at i
-  gap_ends g e = record { ahead = g.ahead; within = g.within; same_words = g.same_words; at_word = λ h. e }
-
-  pub gap_ends_last : Gap text at i → length text ≤ i → GapEnd text at i
-  gap_ends_last g e = record { ahead = g.ahead; within = g.within; same_words = g.same_words; at_word = λ h. absurd (omega arith) }
-
-pub skipped_none : (text : List ℕ) (at : ℕ) → at ≤ length text → Skipped text at at
-skipped_none text at h = record { ahead = omega arith; within = h; same_words = refl; same_walk = refl }
-
-pub gap_none : (text : List ℕ) (at : ℕ) → at ≤ length text → Gap text at at
-gap_none text at h = record { ahead = omega arith; within = h; same_words = refl }
-
 -- The word that begins at `start`, up to its end.
 module _ (text : List ℕ) (start end : ℕ) (h : start < length text) (w : blank (get_or text start 0) ≡ false)
     (e : end ≡ start + length (until blank (drop start text))) where
