@@ -26,7 +26,7 @@ use Rattle.book.specs.Inner.Cursor.{LineStart, GapEnd, SpaceEnd, WordAt, Stepped
 use Rattle.book.proofs.WordLaws.{here_none, here_end, here_blank, here_word, line_none, line_end_lem, line_blank, line_word, behind_byte, behind_word, start_plain, start_skipped, walk_skipped}
 
 -- the line with its byte 10 is the line and one byte more, where the text goes on behind the line
-pub line_reach : (t : List ℕ) → line_length t ≡ min (length t) (length (until line_end t) + 1)
+line_reach : (t : List ℕ) → line_length t ≡ min (length t) (length (until line_end t) + 1)
 unfolding line_length until
 line_reach [] = refl
 line_reach (b ∷ t) = go (line_end b) (line_reach t)
@@ -35,6 +35,10 @@ line_reach (b ∷ t) = go (line_end b) (line_reach t)
         → cond e 1 (suc (line_length t)) ≡ min (suc (length t)) (length (cond e [] (b ∷ until line_end t)) + 1)
     go true rest = omega arith
     go false rest = omega arith
+
+pub line_behind : (text : List ℕ) (at : ℕ) → at ≤ length text
+    → at + line_length (drop at text) ≡ min (length text) (at + length (until line_end (drop at text)) + 1)
+line_behind text at h = omega (arith, line_reach (drop at text), length-drop at text)
 
 line_within_lem : (t : List ℕ) → line_length t ≤ length t
 unfolding line_length
