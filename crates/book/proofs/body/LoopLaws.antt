@@ -92,9 +92,6 @@ module _ {text : List ℕ} {start variables clauses : ℕ} {numbers marks curren
   pub end_within : clauses ≤ max_clauses → (clauses + 4 ≤ end) × (end + length clause ≤ max_book)
   end_within few = (omega (arith, g.end_is), omega (arith, g.end_is, kept_few, g.total_is, g.total_within, opened_is))
 
-  pub put_within : clauses ≤ max_clauses → (r : ℕ) → r ≡ end + length (as_read clause) → r ≤ max_book
-  put_within few r e = omega (arith, end_within few, as_read_short clause)
-
   pub next_unmarked : Marked marks (closed + 1) []
   next_unmarked = marked_none marks closed (closed + 1) (omega arith) g.bounded
 

@@ -41,9 +41,6 @@ pub record DigitsSoFar (word : List ℕ) (value i : ℕ) : Type 0 where
   pub same_digits : all is_digit (drop i word) ≡ all is_digit word
   pub small : value < 10 ^ i
 
-pub digits_start : (word : List ℕ) → DigitsSoFar word 0 0
-digits_start word = record { within = omega arith; same_value = refl; same_digits = refl; small = omega arith }
-
 pub digits_step : {word : List ℕ} {value i : ℕ} → DigitsSoFar word value i → i < length word → 48 ≤ get_or word i 0 → get_or word i 0 ≤ 57
     → DigitsSoFar word (10 * value + (get_or word i 0 - 48)) (i + 1)
 unfolding decimal all

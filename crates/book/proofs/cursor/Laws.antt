@@ -26,7 +26,7 @@ use Rattle.book.specs.Inner.Cursor.{LineStart, GapEnd, SpaceEnd, WordAt, Stepped
 use Rattle.book.proofs.WordLaws.{here_none, here_end, here_blank, here_word, line_none, line_end_lem, line_blank, line_word, behind_byte, behind_word, start_plain, start_skipped, walk_skipped}
 
 -- the line with its byte 10 is the line and one byte more, where the text goes on behind the line
-pub line_reach : (t : List ℕ) → line_length t ≡ min (length t) (length (until line_end t) + 1)
+line_reach : (t : List ℕ) → line_length t ≡ min (length t) (length (until line_end t) + 1)
 unfolding line_length until
 line_reach [] = refl
 line_reach (b ∷ t) = go (line_end b) (line_reach t)
@@ -35,6 +35,10 @@ line_reach (b ∷ t) = go (line_end b) (line_reach t)
         → cond e 1 (suc (line_length t)) ≡ min (suc (length t)) (length (cond e [] (b ∷ until line_end t)) + 1)
     go true rest = omega arith
     go false rest = omega arith
+
+pub line_behind : (text : List ℕ) (at : ℕ) → at ≤ length text
+    → at + line_length (drop at text) ≡ min (length text) (at + length (until line_end (drop at text)) + 1)
+line_behind text at h = omega (arith, line_reach (drop at text), length-drop at text)
 
 line_within_lem : (t : List ℕ) → line_length t ≤ length t
 unfolding line_length
@@ -119,18 +123,6 @@ module _ (text : List ℕ) (at i : ℕ) where
             ∙ (rw (add-one i) at l.same_words)
             ∙ start_plain r (drop r text) l.unskipped;
       }
-
-  pub gap_ends : Gap text at i → blank (get_or text i 0) ≡ false → GapEnd text at i
-  gap_ends g e = record { ahead = g.ahead; within = g.within; same_words = g.same_words; at_word = λ h. e }
-
-  pub gap_ends_last : Gap text at i → length text ≤ i → GapEnd text at i
-  gap_ends_last g e = record { ahead = g.ahead; within = g.within; same_words = g.same_words; at_word = λ h. absurd (omega arith) }
-
-pub skipped_none : (text : List ℕ) (at : ℕ) → at ≤ length text → Skipped text at at
-skipped_none text at h = record { ahead = omega arith; within = h; same_words = refl; same_walk = refl }
-
-pub gap_none : (text : List ℕ) (at : ℕ) → at ≤ length text → Gap text at at
-gap_none text at h = record { ahead = omega arith; within = h; same_words = refl }
 
 -- The word that begins at `start`, up to its end.
 module _ (text : List ℕ) (start end : ℕ) (h : start < length text) (w : blank (get_or text start 0) ≡ false)

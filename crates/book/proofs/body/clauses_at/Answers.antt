@@ -18,30 +18,30 @@ returns-then-progress-eq0 c =
     so_far_short c.loop-word.invariant _
     (token_next _ (rw c.in-Some-Close.field-0-is at c.in-Some-Close.ensures) (rw c.in-Some.is at c.next.ensures)) c.if-progress-eq0.true
 
-pub put_clause-end-requires-clause-marked : goal.put_clause-end-requires-clause-marked
-put_clause-end-requires-clause-marked c = next_unmarked c.loop-word.invariant
+pub put_clause-requires-clause-marked : goal.put_clause-requires-clause-marked
+put_clause-requires-clause-marked c = next_unmarked c.loop-word.invariant
 
-pub put_clause-end-requires-clause-out_len : goal.put_clause-end-requires-clause-out_len
-put_clause-end-requires-clause-out_len c = (c.loop-word.invariant.written.long, (end_within c.loop-word.invariant c.requires.2).1)
+pub put_clause-requires-clause-out_len : goal.put_clause-requires-clause-out_len
+put_clause-requires-clause-out_len c = (c.loop-word.invariant.written.long, (end_within c.loop-word.invariant c.requires.2).1)
 
 pub loop-word-preserved-else-progress-eq0 : goal.loop-word-preserved-else-progress-eq0
 loop-word-preserved-else-progress-eq0 c =
     so_far_close c.loop-word.invariant _ c.requires.2
     (token_next _ (rw c.in-Some-Close.field-0-is at c.in-Some-Close.ensures) (rw c.in-Some.is at c.next.ensures))
-    c.if-progress-eq0.false _ _ _ c.put_clause-end.ensures.value c.put_clause-end.ensures.out_after c.put_clause-end.ensures.out_len_2.0 c.put_clause-end.ensures.out_len_2.1
+    c.if-progress-eq0.false _ _ _ c.put_clause.ensures.value c.put_clause.ensures.out_after c.put_clause.ensures.out_len_2.0 c.put_clause.ensures.out_len_2.1
 
-pub returns-in_err-literal_fault-in-Some-Literal : goal.returns-in_err-literal_fault-in-Some-Literal
-returns-in_err-literal_fault-in-Some-Literal c =
+pub returns-in_err-check_literal-in-Some-Literal : goal.returns-in_err-check_literal-in-Some-Literal
+returns-in_err-check_literal-in-Some-Literal c =
     let fault = err_from_is_err_and c.from_residual.result c.from_residual.ensures.1 in
     rw (fault.1, fault.2)
-    (so_far_fault c.loop-word.invariant c.in-Some-Literal.l _ c.in_err-literal_fault-in-Some-Literal.ensures _
+    (so_far_fault c.loop-word.invariant c.in-Some-Literal.l _ c.in_err-check_literal-in-Some-Literal.ensures _
     (token_next _ (rw c.in-Some-Literal.field-0-is at c.in-Some-Literal.ensures) (rw c.in-Some.is at c.next.ensures)))
 
-pub bounds-current-opened : goal.bounds-current-opened
-bounds-current-opened c =
-    opened_below c.loop-word.invariant c.in-Some-Literal.l c.in_ok-literal_fault-in-Some-Literal.ensures
+pub bounds-current-progress : goal.bounds-current-progress
+bounds-current-progress c =
+    opened_below c.loop-word.invariant c.in-Some-Literal.l c.in_ok-check_literal-in-Some-Literal.ensures
 
 pub loop-word-preserved : goal.loop-word-preserved
 loop-word-preserved c =
-    so_far_literal c.loop-word.invariant c.in-Some-Literal.l c.in_ok-literal_fault-in-Some-Literal.ensures _ c.requires.1
+    so_far_literal c.loop-word.invariant c.in-Some-Literal.l c.in_ok-check_literal-in-Some-Literal.ensures _ c.requires.1
     (token_next _ (rw c.in-Some-Literal.field-0-is at c.in-Some-Literal.ensures) (rw c.in-Some.is at c.next.ensures))
