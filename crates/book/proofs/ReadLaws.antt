@@ -5,7 +5,7 @@ use mathlib.Core.List.{List, ◌++◌}
 use native.Mathlib.Omega.{arith}
 use borrow.Author.Tests.{lt-ltb, le-ltb}
 use lib.ListN.{length, take, drop, length-map}
-use Rattle.book.specs.Formula.{Formula, literals, max_book}
+use Rattle.book.specs.Formula.{Formula, literals}
 use Rattle.book.specs.Numbers.{numbers_of}
 use Rattle.book.specs.Text.{lines_of}
 use Rattle.book.specs.Reading.{as_read, read_formula, Judged, refused, accepted, read_text, max_text}
@@ -69,8 +69,8 @@ module _ {text numbers : List ℕ} {variables clauses total : ℕ} (r : Read tex
   length_read : length (numbers_of formula) ≡ clauses + total + 4
   length_read = length_numbers formula ∙ rw (same_clauses, r.same_literals)
 
-  pub book_within : clauses + total + 4 ≤ max_book
-  book_within = omega (arith, length_read, book_fits formula (read_sound r.written (lines_written (lines_of text) r.written r.is_accepted)))
+  pub book_inside : clauses + total + 4 ≤ length numbers
+  book_inside = omega (arith, length_read, r.long, book_fits formula (read_sound r.written (lines_written (lines_of text) r.written r.is_accepted)))
 
   module _ (short : length text ≤ max_text) (buffer : List ℕ) where
     is_read : read_text text ≡ accepted formula

@@ -1,14 +1,17 @@
 -- The clauses of the text as the reader's loop meets them: faults of a literal, the walk, the numbers written.
 use Prim.Native.Nat.{ℕ, suc, ◌+◌, ◌≤◌, ◌<◌}
 use mathlib.Core.Path.{◌≡◌, refl, ap, sym, ◌∙◌}
-use mathlib.Core.Logic.{◌⊎◌, inl, inr}
 use mathlib.Core.Bool.{Bool, true, false, cond, ◌&&◌, and-false}
 use mathlib.Core.List.{List, [], ◌∷◌, ◌++◌, append-nil, append_assoc}
 use native.Mathlib.Omega.{arith}
-use borrow.Author.Tests.{lt-ltb, le-ltb, ltb-false, le-leb, lt-leb, eq-eqb, ne_eqb}
+use borrow.Author.Tests.{ltb-false, eq-eqb, ne_eqb}
 use lib.Dec.{leb, ltb, eqb}
 use lib.ListN.{length, take, drop, set, length-set, length-append, length-drop}
 use lib.Seq.{drop-set-add, drop-set-lt, drop-append-le, take_at, take-suc-set, take-take, length-take-le}
+use Rattle.std.specs.Prelude.{Result, Ok, Err}
+use Rattle.refusals.specs.declared.Refusal.{Refusal}
+use Rattle.refusals.specs.declared.Refusal.TheVariants.{LargeVariable, ClauseLength, ClauseCount, LiteralCount}
+use Rattle.refusals.specs.Refusals.{number_of}
 use Rattle.base.specs.Lists.{flat}
 use Rattle.base.proofs.Lists.{length_more, flat_more, empty_test, take-drop}
 use Rattle.book.specs.Formula.{variable_of, max_clause, max_literals, max_book, max_clauses}
@@ -18,61 +21,34 @@ use Rattle.book.specs.Reading.{Judged, refused, accepted}
 use Rattle.book.specs.Inner.Walk.{walk}
 use Rattle.book.specs.Inner.Body.{Written, literal_fault}
 
--- the tests of a literal, one after the other
-module _ (variables clauses closed opened total l : ℕ) where
-  pub fault_over : variables < variable_of l → literal_fault variables clauses closed opened total l ≡ 5
-  unfolding literal_fault
-  fault_over h = rw (lt-ltb variables (variable_of l) h)
+-- the faults of a literal against the answers
+same_refusal : {r q : Refusal} → ◌≡◌ {A = Result (Unit {0}) Refusal} (Err r) (Err q) → r ≡ q
+same_refusal e = cc
 
-  module _ (within : variable_of l ≤ variables) where
-    pub fault_long : opened ≡ max_clause → literal_fault variables clauses closed opened total l ≡ 6
-    unfolding literal_fault
-    fault_long e = rw (le-ltb variables (variable_of l) within, eq-eqb opened max_clause e)
-
-    module _ (short : opened ≡ max_clause → ⊥) where
-      pub fault_surplus : opened ≡ 0 → clauses ≤ closed → literal_fault variables clauses closed opened total l ≡ 8
-      unfolding literal_fault
-      fault_surplus e h =
-          rw (le-ltb variables (variable_of l) within, ne_eqb opened max_clause short, eq-eqb opened 0 e, le-leb clauses closed h)
-
-      wanted : (opened ≡ 0 → ⊥) ⊎ (closed < clauses) → (eqb opened 0 && leb clauses closed) ≡ false
-      wanted (inl n) = rw (ne_eqb opened 0 n)
-      wanted (inr h) = rw (lt-leb clauses closed h) (and-false (eqb opened 0))
-
-      pub fault_literals : (opened ≡ 0 → ⊥) ⊎ (closed < clauses) → total ≡ max_literals → literal_fault variables clauses closed opened total l ≡ 9
-      unfolding literal_fault
-      fault_literals w e =
-          rw (le-ltb variables (variable_of l) within, ne_eqb opened max_clause short, wanted w, eq-eqb total max_literals e)
-
-      pub fault_none : (opened ≡ 0 → ⊥) ⊎ (closed < clauses) → (total ≡ max_literals → ⊥) → literal_fault variables clauses closed opened total l ≡ 0
-      unfolding literal_fault
-      fault_none w n =
-          rw (le-ltb variables (variable_of l) within, ne_eqb opened max_clause short, wanted w, ne_eqb total max_literals n)
-
--- the numbers of the faults against the answers
-chain : (over long surplus many : Bool) (rest : Judged) (n : ℕ)
-    → cond over 5 (cond long 6 (cond surplus 8 (cond many 9 0))) ≡ n → (n ≡ 0 → ⊥)
-    → cond over (refused 5) (cond long (refused 6) (cond surplus (refused 8) (cond many (refused 9) rest))) ≡ refused n
-chain true long surplus many rest n e h = ap refused e
-chain false true surplus many rest n e h = ap refused e
-chain false false true many rest n e h = ap refused e
-chain false false false true rest n e h = ap refused e
-chain false false false false rest n e h = absurd (h (sym e))
+chain : (over long surplus many : Bool) (rest : Judged) (r : Refusal)
+    → cond over (Err LargeVariable) (cond long (Err ClauseLength) (cond surplus (Err ClauseCount) (cond many (Err LiteralCount) (Ok (tt {0}))))) ≡ Err r
+    → cond over (refused 5) (cond long (refused 6) (cond surplus (refused 8) (cond many (refused 9) rest))) ≡ refused (number_of r)
+unfolding number_of
+chain true long surplus many rest r e = ap (λ (r : Refusal). refused (number_of r)) (same_refusal e)
+chain false true surplus many rest r e = ap (λ (r : Refusal). refused (number_of r)) (same_refusal e)
+chain false false true many rest r e = ap (λ (r : Refusal). refused (number_of r)) (same_refusal e)
+chain false false false true rest r e = ap (λ (r : Refusal). refused (number_of r)) (same_refusal e)
+chain false false false false rest r e = let no : ⊥ = cc in absurd no
 
 chain_through : (over long surplus many : Bool) (rest : Judged)
-    → ◌≡◌ {A = ℕ} (cond over 5 (cond long 6 (cond surplus 8 (cond many 9 0)))) 0
+    → cond over (Err LargeVariable) (cond long (Err ClauseLength) (cond surplus (Err ClauseCount) (cond many (Err LiteralCount) (Ok (tt {0}))))) ≡ Ok tt
     → (over ≡ false) × (long ≡ false) × (surplus ≡ false) × (many ≡ false)
     × (cond over (refused 5) (cond long (refused 6) (cond surplus (refused 8) (cond many (refused 9) rest))) ≡ rest)
-chain_through true long surplus many rest e = absurd (omega arith)
-chain_through false true surplus many rest e = absurd (omega arith)
-chain_through false false true many rest e = absurd (omega arith)
-chain_through false false false true rest e = absurd (omega arith)
+chain_through true long surplus many rest e = let no : ⊥ = cc in absurd no
+chain_through false true surplus many rest e = let no : ⊥ = cc in absurd no
+chain_through false false true many rest e = let no : ⊥ = cc in absurd no
+chain_through false false false true rest e = let no : ⊥ = cc in absurd no
 chain_through false false false false rest e = (refl, refl, refl, refl, refl)
 
 -- one token of the walk
 module _ (variables clauses : ℕ) (done : List (List ℕ)) (current : List ℕ) where
   -- the first fault of a literal here
-  abbrev pub fault_here : ℕ → ℕ
+  abbrev pub fault_here : ℕ → Result (Unit {0}) Refusal
   fault_here l = literal_fault variables clauses (length done) (length current) (length (flat done) + length current) l
 
   pub walk_invalid : (tokens : List Token) → walk variables clauses done current (invalid ∷ tokens) ≡ refused 4
@@ -88,15 +64,15 @@ module _ (variables clauses : ℕ) (done : List (List ℕ)) (current : List ℕ)
   unfolding walk
   walk_close tokens n = rw (empty_test current, ne_eqb (length current) 0 n)
 
-  pub walk_fault : (l : ℕ) (tokens : List Token) (n : ℕ) → fault_here l ≡ n → (n ≡ 0 → ⊥) → walk variables clauses done current (literal l ∷ tokens) ≡ refused n
+  pub walk_fault : (l : ℕ) (tokens : List Token) (r : Refusal) → fault_here l ≡ Err r → walk variables clauses done current (literal l ∷ tokens) ≡ refused (number_of r)
   unfolding walk literal_fault
-  walk_fault l tokens n e h =
+  walk_fault l tokens r e =
       rw (empty_test current)
       (chain (ltb variables (variable_of l)) (eqb (length current) max_clause) (eqb (length current) 0 && leb clauses (length done))
       (eqb (length (flat done) + length current) max_literals)
-      (walk variables clauses done (current ++ (l ∷ [])) tokens) n e h)
+      (walk variables clauses done (current ++ (l ∷ [])) tokens) r e)
 
-  pub walk_literal : (l : ℕ) (tokens : List Token) → fault_here l ≡ 0
+  pub walk_literal : (l : ℕ) (tokens : List Token) → fault_here l ≡ Ok tt
       → walk variables clauses done current (literal l ∷ tokens) ≡ walk variables clauses done (current ++ (l ∷ [])) tokens
   unfolding walk literal_fault
   walk_literal l tokens e =
@@ -106,7 +82,7 @@ module _ (variables clauses : ℕ) (done : List (List ℕ)) (current : List ℕ)
       (walk variables clauses done (current ++ (l ∷ [])) tokens) e).4
 
   -- what a literal without a fault keeps
-  pub literal_taken : (l : ℕ) → fault_here l ≡ 0
+  pub literal_taken : (l : ℕ) → fault_here l ≡ Ok tt
       → (variable_of l ≤ variables) × (eqb (length current) max_clause ≡ false) × ((eqb (length current) 0 && leb clauses (length done)) ≡ false)
       × (eqb (length (flat done) + length current) max_literals ≡ false)
   unfolding literal_fault

@@ -14,17 +14,24 @@ use Rattle.base.specs.Lists.{all, flat}
 use Rattle.base.proofs.Lists.{all_more, length_more, flat_more, flat_shorter}
 use Rattle.base.proofs.ForAll.{all_places}
 use Rattle.book.specs.Formula.{variable_of, max_clause, max_literals, max_book, max_clauses, max_variables}
-use Rattle.book.specs.Text.{Token, literal, close, invalid}
+use Rattle.book.specs.Text.{Token, literal, close, invalid, token_of}
 use Rattle.book.specs.Reading.{as_read, refused}
 use Rattle.book.specs.Inner.Walk.{walk}
 use Rattle.book.specs.Inner.Cursor.{tokens_here, NextWord, NoWord}
 use Rattle.book.specs.Inner.Marks.{Bounded, Marked, variable_marks}
 use Rattle.book.specs.Inner.Body.{Written, literal_fault, EndSays, BodySays}
-use Rattle.book.specs.declared.body.Body.{Body}
-use Rattle.book.specs.declared.body.Body.TheVariants as b
+use Rattle.std.specs.Prelude.{Result, Ok, Err}
+use Rattle.refusals.specs.declared.Refusal.{Refusal}
+use Rattle.refusals.specs.declared.Refusal.TheVariants.{Word, ClauseLength}
+use Rattle.refusals.specs.Refusals.{number_of}
 use Rattle.book.proofs.AsReadLaws.{as_read_short}
 use Rattle.book.proofs.marks.Laws.{bounded_fresh, marked_none}
 use Rattle.book.proofs.body.Laws.{fault_here, walk_invalid, walk_short, walk_close, walk_fault, walk_literal, literal_taken, walk_open, walk_few, walk_all, written_none, written_close, written_clause_lem}
+
+-- a step over a word, by the token that the word is
+pub token_next : {text : List ℕ} {at next : ℕ} {token : Token} (word : List ℕ) → token ≡ token_of word → NextWord text at (token_of word) next
+    → NextWord text at token next
+token_next word e n = record { ahead = n.ahead; within = n.within; tokens = rw e n.tokens }
 
 -- the variable of every literal has a mark
 abbrev pub Markable : List ℕ → Type 0
@@ -85,9 +92,6 @@ module _ {text : List ℕ} {start variables clauses : ℕ} {numbers marks curren
   pub end_within : clauses ≤ max_clauses → (clauses + 4 ≤ end) × (end + length clause ≤ max_book)
   end_within few = (omega (arith, g.end_is), omega (arith, g.end_is, kept_few, g.total_is, g.total_within, opened_is))
 
-  pub put_within : clauses ≤ max_clauses → (r : ℕ) → r ≡ end + length (as_read clause) → r ≤ max_book
-  put_within few r e = omega (arith, end_within few, as_read_short clause)
-
   pub next_unmarked : Marked marks (closed + 1) []
   next_unmarked = marked_none marks closed (closed + 1) (omega arith) g.bounded
 
@@ -96,7 +100,8 @@ module _ {text : List ℕ} {start variables clauses : ℕ} {numbers marks curren
       → walk variables clauses [] [] (tokens_here text start) ≡ walk variables clauses g.done clause tokens
   here tokens e = sym g.same_walk ∙ ap (walk variables clauses g.done clause) e
 
-  pub so_far_invalid : (next : ℕ) → NextWord text at invalid next → walk variables clauses [] [] (tokens_here text start) ≡ refused 4
+  pub so_far_invalid : (next : ℕ) → NextWord text at invalid next → walk variables clauses [] [] (tokens_here text start) ≡ refused (number_of Word)
+  unfolding number_of
   so_far_invalid next w = here (invalid ∷ tokens_here text next) w.tokens ∙ walk_invalid variables clauses g.done clause (tokens_here text next)
 
   so_far_open : (next : ℕ) → NoWord text at next → (opened ≡ 0 → ⊥) → walk variables clauses [] [] (tokens_here text start) ≡ refused 8
@@ -105,12 +110,13 @@ module _ {text : List ℕ} {start variables clauses : ℕ} {numbers marks curren
   so_far_few : (next : ℕ) → NoWord text at next → (closed ≡ clauses → ⊥) → walk variables clauses [] [] (tokens_here text start) ≡ refused 8
   so_far_few next w n = here [] w.tokens ∙ walk_few variables clauses g.done clause (λ z. n (sym g.closed_is ∙ z))
 
-  pub so_far_short : (next : ℕ) → NextWord text at close next → opened ≡ 0 → walk variables clauses [] [] (tokens_here text start) ≡ refused 6
+  pub so_far_short : (next : ℕ) → NextWord text at close next → opened ≡ 0 → walk variables clauses [] [] (tokens_here text start) ≡ refused (number_of ClauseLength)
+  unfolding number_of
   so_far_short next w e =
       here (close ∷ tokens_here text next) w.tokens ∙ walk_short variables clauses g.done clause (tokens_here text next) (opened_is ∙ e)
 
   so_far_all : (next : ℕ) → NoWord text at next → (literals : ℕ) → opened ≡ 0 → closed ≡ clauses → end ≡ clauses + 4 + literals
-      → BodySays text start variables clauses numbers (b.Read literals)
+      → BodySays text start variables clauses numbers (Ok literals)
   so_far_all next w literals h k e = (
     g.done,
     here [] w.tokens ∙ walk_all variables clauses g.done clause (opened_is ∙ h) (g.closed_is ∙ k),
@@ -120,9 +126,10 @@ module _ {text : List ℕ} {start variables clauses : ℕ} {numbers marks curren
   )
 
   -- what is said where the text ends, it says of the text
-  pub so_far_end : (next : ℕ) → NoWord text at next → (r : Body) → EndSays clauses closed opened end r → BodySays text start variables clauses numbers r
-  so_far_end next w (b.Refused number) (e, n) = ⊎_elim (so_far_open next w) (so_far_few next w) n ∙ ap refused (sym e)
-  so_far_end next w (b.Read literals) (h, k, e) = so_far_all next w literals h k e
+  pub so_far_end : (next : ℕ) → NoWord text at next → (r : Result ℕ Refusal) → EndSays clauses closed opened end r → BodySays text start variables clauses numbers r
+  unfolding number_of
+  so_far_end next w (Err refusal) (e, n) = ⊎_elim (so_far_open next w) (so_far_few next w) n ∙ ap (λ (r : Refusal). refused (number_of r)) (sym e)
+  so_far_end next w (Ok literals) (h, k, e) = so_far_all next w literals h k e
 
   -- the open clause is put as read up to r, and its end is stored
   pub so_far_close : (next : ℕ) → clauses ≤ max_clauses → NextWord text at close next → (opened ≡ 0 → ⊥) → (later after : List ℕ) (r : ℕ)
@@ -159,20 +166,21 @@ module _ {text : List ℕ} {start variables clauses : ℕ} {numbers marks curren
             sym (here (close ∷ tokens_here text next) w.tokens ∙ walk_close variables clauses g.done clause (tokens_here text next) (λ z. n (sym opened_is ∙ z)));
       }
 
-  module _ (l fault : ℕ) (is : fault ≡ literal_fault variables clauses closed opened total l) where
+  module _ (l : ℕ) where
     -- the tests of the code are those of the walk
-    fault-same : fault_here variables clauses g.done clause l ≡ fault
-    fault-same = rw (opened_is, g.total_is, g.closed_is) (sym is)
+    fault_same : fault_here variables clauses g.done clause l ≡ literal_fault variables clauses closed opened total l
+    fault_same = rw (opened_is, g.total_is, g.closed_is)
 
-    pub so_far_fault : (next : ℕ) → NextWord text at (literal l) next → (fault ≡ 0 → ⊥) → walk variables clauses [] [] (tokens_here text start) ≡ refused fault
-    so_far_fault next w n =
+    pub so_far_fault : (r : Refusal) → Err r ≡ literal_fault variables clauses closed opened total l → (next : ℕ) → NextWord text at (literal l) next
+        → walk variables clauses [] [] (tokens_here text start) ≡ refused (number_of r)
+    so_far_fault r e next w =
         here (literal l ∷ tokens_here text next) w.tokens
-        ∙ walk_fault variables clauses g.done clause l (tokens_here text next) fault fault-same n
+        ∙ walk_fault variables clauses g.done clause l (tokens_here text next) r (fault_same ∙ sym e)
 
-    module _ (zero-fault : fault ≡ 0) where
+    module _ (taken : Ok tt ≡ literal_fault variables clauses closed opened total l) where
       facts : (variable_of l ≤ variables) × (eqb (length clause) max_clause ≡ false) × ((eqb (length clause) 0 && leb clauses (length g.done)) ≡ false)
           × (eqb (length (flat g.done) + length clause) max_literals ≡ false)
-      facts = literal_taken variables clauses g.done clause l (fault-same ∙ zero-fault)
+      facts = literal_taken variables clauses g.done clause l (fault_same ∙ sym taken)
 
       pub opened_below : opened < max_clause
       opened_below = omega (arith, g.opened_within, opened_is, eqb-false (length clause) max_clause facts.1)
@@ -211,5 +219,5 @@ module _ {text : List ℕ} {start variables clauses : ℕ} {numbers marks curren
                 rw grown
                 (sym
                 (here (literal l ∷ tokens_here text next) w.tokens
-                ∙ walk_literal variables clauses g.done clause l (tokens_here text next) (fault-same ∙ zero-fault)));
+                ∙ walk_literal variables clauses g.done clause l (tokens_here text next) (fault_same ∙ sym taken)));
           }

@@ -8,14 +8,31 @@ use native.Mathlib.Numerals.{add-one}
 use native.Mathlib.Omega.{arith}
 use borrow.Author.Tests.{le-leb, eq-eqb, ne_eqb}
 use lib.Dec.{eqb}
-use lib.ListN.{length, get_or, drop, drop_of_length-le}
-use lib.Seq.{drop-cons}
-use Rattle.base.specs.Lists.{all}
+use lib.ListN.{length, get_or, take, drop, length-drop, drop_of_length-le}
+use lib.Seq.{drop-cons, take_all}
+use Rattle.std.specs.List.{take_while}
+use Rattle.std.specs.Prelude.{not}
+use Rattle.std.proofs.lemmas.List.Sums.{take_while-cons}
+use Rattle.base.specs.Lists.{until, all}
 use Rattle.book.specs.Text.{Token, decimal, is_digit, unsigned, literal, close, invalid, negative_token, unsigned_token, token_of}
 use Rattle.book.specs.Answer.{digits_of}
 use Rattle.book.specs.Formula.{positive, negative}
 use Rattle.std.specs.Prelude.{Option, Some, None}
 use Rattle.book.proofs.DecimalLaws.{digit_true, digit_false, unsigned_false}
+
+-- how many bytes the iterator takes from `at` on before the first that passes the test
+taken_until : (stop : ℕ → Bool) (xs : List ℕ) → take_while (λ (b : ℕ). not (stop b)) xs ≡ until stop xs
+unfolding until
+taken_until stop [] = refl
+taken_until stop (x ∷ xs) = take_while-cons (λ (b : ℕ). not (stop b)) x xs ∙ go (stop x) (taken_until stop xs)
+  where
+    go : (s : Bool) → take_while (λ (b : ℕ). not (stop b)) xs ≡ until stop xs
+        → cond (not s) (x ∷ take_while (λ (b : ℕ). not (stop b)) xs) [] ≡ cond s [] (x ∷ until stop xs)
+    go true e = refl
+    go false e = ap (λ (t : List ℕ). x ∷ t) e
+
+pub count_until : (stop : ℕ → Bool) (text : List ℕ) (at : ℕ) → length (take_while (λ (b : ℕ). not (stop b)) (take (length text - at) (drop at text))) ≡ length (until stop (drop at text))
+count_until stop text at = rw (take_all (length text - at) (drop at text) (rw (length-drop at text) (omega arith))) (ap length (taken_until stop (drop at text)))
 
 -- what the loop knows at byte i: the rest of the word decides, from the value so far on
 pub record DigitsSoFar (word : List ℕ) (value i : ℕ) : Type 0 where
@@ -23,9 +40,6 @@ pub record DigitsSoFar (word : List ℕ) (value i : ℕ) : Type 0 where
   pub same_value : decimal value (drop i word) ≡ decimal 0 word
   pub same_digits : all is_digit (drop i word) ≡ all is_digit word
   pub small : value < 10 ^ i
-
-pub digits_start : (word : List ℕ) → DigitsSoFar word 0 0
-digits_start word = record { within = omega arith; same_value = refl; same_digits = refl; small = omega arith }
 
 pub digits_step : {word : List ℕ} {value i : ℕ} → DigitsSoFar word value i → i < length word → 48 ≤ get_or word i 0 → get_or word i 0 ≤ 57
     → DigitsSoFar word (10 * value + (get_or word i 0 - 48)) (i + 1)

@@ -1,30 +1,51 @@
 -- The header line, word by word, as the code meets it.
-use Prim.Native.Nat.{ℕ, suc, ◌-◌}
+use Prim.Native.Nat.{ℕ, suc}
 use mathlib.Core.Path.{◌≡◌, refl, ap, sym, ◌∙◌}
-use mathlib.Core.Bool.{Bool, true, false, and-false}
+use mathlib.Core.Bool.{Bool, true, false, ◌&&◌, and-false}
 use mathlib.Core.List.{List, [], ◌∷◌}
 use native.Mathlib.Omega.{arith}
 use borrow.Author.Tests.{ne_eqb}
-use lib.ListN.{length, take, drop}
+use lib.ListN.{length, drop}
 use Rattle.base.specs.Lists.{same, begins}
 use Rattle.book.specs.Text.{unsigned, decimal, header, headed, header_in}
 use Rattle.book.specs.Reading.{refused}
 use Rattle.book.specs.Inner.Words.{words_behind}
 use Rattle.book.specs.Inner.Walk.{tokens_of, walk_under, walk_start}
 use Rattle.book.specs.Inner.Cursor.{line_words, tokens_here, NextInLine, LineEnds}
-use Rattle.book.specs.Inner.Header.{WordPasses, WordFails, none, other}
+use Rattle.book.specs.Inner.Header.{WordPasses, WordFails, none, other, KeywordSays, FieldSays}
+use Rattle.book.specs.Answer.{digits_of}
+use Rattle.book.specs.declared.cursor.Cursor.{Cursor}
+use Rattle.std.specs.Prelude.{Option, Some, None, nat_eq}
+use Rattle.std.specs.Option.{option_map}
+use Rattle.std.specs.Bool.{then_some}
+use lib.Pointwise.{pointwise}
+use Rattle.book.proofs.DecimalLaws.{word_unsigned, word_not_unsigned}
 use Rattle.book.proofs.WordLaws.{walk_behind, header_line}
 
-module _ (test : List ℕ → Bool) (text : List ℕ) (at : ℕ) where
-  pub word_passes : (from next : ℕ) → NextInLine text at from next → test (take (next - from) (drop from text)) ≡ true → WordPasses test text at next
-  word_passes from next n e =
-      record { word = take (next - from) (drop from text); passes = e; words = n.words; within = n.within; same_behind = n.same_behind }
+-- two lists of numbers are equal where they are the same
+same_pointwise : (xs ys : List ℕ) → pointwise nat_eq xs ys ≡ same xs ys
+unfolding same
+same_pointwise [] [] = refl
+same_pointwise [] (y ∷ ys) = refl
+same_pointwise (x ∷ xs) [] = refl
+same_pointwise (x ∷ xs) (y ∷ ys) = ap (λ (t : Bool). nat_eq x y && t) (same_pointwise xs ys)
 
-pub field_passes : (text : List ℕ) (at from next value : ℕ) → NextInLine text at from next
-    → (unsigned (take (next - from) (drop from text)) ≡ true) × (decimal 0 (take (next - from) (drop from text)) ≡ value)
-    → (p : WordPasses unsigned text at next) × (decimal 0 p.word ≡ value)
-unfolding word_passes
-field_passes text at from next value n v = (word_passes unsigned text at from next n v.0, v.1)
+module _ {text : List ℕ} {at : ℕ} {word : List ℕ} (next : Cursor) (n : NextInLine text at word next.at) where
+  word_passes : (test : List ℕ → Bool) → test word ≡ true → WordPasses test text at next.at
+  word_passes test e = record { word = word; passes = e; words = n.words; within = n.within; same_behind = n.same_behind }
+
+  -- the line's next word is the keyword, or another word
+  pub keyword_says : (keyword : List ℕ) (equal : Bool) → equal ≡ pointwise nat_eq word keyword → KeywordSays text at keyword (then_some equal next)
+  keyword_says keyword true e = word_passes (λ (w : List ℕ). same w keyword) (sym (e ∙ same_pointwise word keyword))
+  keyword_says keyword false e = other word next.at n (sym (e ∙ same_pointwise word keyword))
+
+  -- the line's next word is a number, or another word
+  pub field_says : (value : Option ℕ) → value ≡ digits_of word → FieldSays text at (option_map (λ (v : ℕ). (v, next)) value)
+  unfolding word_passes
+  field_says (Some value) e =
+      let digits = word_unsigned word value e in
+      (word_passes unsigned digits.0, digits.1)
+  field_says None e = other word next.at n (word_not_unsigned word e)
 
 -- the tests of the first two words
 abbrev pub is_p : List ℕ → Bool
@@ -35,33 +56,33 @@ is_cnf word = same word (99 ∷ 110 ∷ 102 ∷ [])
 
 -- the header is malformed as soon as a word of it fails, or a fifth word follows
 module _ {text : List ℕ} {at : ℕ} where
-  pub first_fails : {next : ℕ} → WordFails is_p text at next → headed (line_words text at) ≡ false
+  pub first_fails : WordFails is_p text at → headed (line_words text at) ≡ false
   unfolding headed
-  first_fails (none l) = rw l.words
-  first_fails (other from n f) = rw (n.words, f, and-false)
+  first_fails (none next l) = rw l.words
+  first_fails (other word next n f) = rw (n.words, f, and-false)
 
   module _ {a : ℕ} (p : WordPasses is_p text at a) where
-    pub second_fails : {next : ℕ} → WordFails is_cnf text a next → headed (line_words text at) ≡ false
+    pub second_fails : WordFails is_cnf text a → headed (line_words text at) ≡ false
     unfolding headed
-    second_fails (none l) = rw (p.words, l.words)
-    second_fails (other from n f) = rw (p.words, n.words, f, and-false)
+    second_fails (none next l) = rw (p.words, l.words)
+    second_fails (other word next n f) = rw (p.words, n.words, f, and-false)
 
     module _ {b : ℕ} (q : WordPasses is_cnf text a b) where
-      pub third_fails : {next : ℕ} → WordFails unsigned text b next → headed (line_words text at) ≡ false
+      pub third_fails : WordFails unsigned text b → headed (line_words text at) ≡ false
       unfolding headed
-      third_fails (none l) = rw (p.words, q.words, l.words)
-      third_fails (other from n f) = rw (p.words, q.words, n.words, f, and-false)
+      third_fails (none next l) = rw (p.words, q.words, l.words)
+      third_fails (other word next n f) = rw (p.words, q.words, n.words, f, and-false)
 
       module _ {c : ℕ} (r : WordPasses unsigned text b c) where
-        pub fourth_fails : {next : ℕ} → WordFails unsigned text c next → headed (line_words text at) ≡ false
+        pub fourth_fails : WordFails unsigned text c → headed (line_words text at) ≡ false
         unfolding headed
-        fourth_fails (none l) = rw (p.words, q.words, r.words, l.words)
-        fourth_fails (other from n f) = rw (p.words, q.words, r.words, n.words, f, and-false)
+        fourth_fails (none next l) = rw (p.words, q.words, r.words, l.words)
+        fourth_fails (other word next n f) = rw (p.words, q.words, r.words, n.words, f, and-false)
 
         module _ {d : ℕ} (s : WordPasses unsigned text c d) where
-          pub fifth_word : {from next : ℕ} → NextInLine text d from next → headed (line_words text at) ≡ false
+          pub fifth_word : {word : List ℕ} {next : ℕ} → NextInLine text d word next → headed (line_words text at) ≡ false
           unfolding headed
-          fifth_word {from} {next} n =
+          fifth_word {word} {next} n =
               rw (p.words, q.words, r.words, s.words, n.words, ne_eqb (suc (suc (suc (suc (suc (length (line_words text next))))))) 4 (λ e. omega arith))
 
           pub well_headed : {next : ℕ} → LineEnds text d next → header_in (line_words text at) ≡ header (decimal 0 r.word) (decimal 0 s.word)

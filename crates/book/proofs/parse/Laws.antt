@@ -1,21 +1,18 @@
 -- A whole text: the limits of the header, and the book numbers of the clauses read.
 use Prim.Native.Nat.{ℕ, suc, ◌+◌, ◌≤◌, ◌<◌}
-use mathlib.Core.Path.{◌≡◌, refl, ap, sym, subst, ◌∙◌}
-use mathlib.Core.Bool.{Bool, true, false, cond, ◌&&◌, or-true}
-use mathlib.Core.Logic.{inl, inr}
-use mathlib.Core.List.{List, [], ◌∷◌, ◌++◌, append-nil}
+use mathlib.Core.Path.{◌≡◌, ap, sym, ◌∙◌}
+use mathlib.Core.Bool.{true, false, or-true}
+use mathlib.Core.List.{List, [], ◌∷◌, append-nil}
 use native.Mathlib.Omega.{arith}
 use borrow.Author.Tests.{eq-eqb, ne_eqb, lt-ltb, le-ltb}
 use lib.ListN.{length, take, drop, set}
 use lib.Seq.{take-add}
-use lib.Dec.{leb, ltb, eqb}
-use Rattle.base.specs.Lists.{flat, empty}
-use Rattle.book.specs.Formula.{variable_of, max_variables, max_clauses, max_clause, max_literals}
+use Rattle.base.specs.Lists.{flat}
+use Rattle.book.specs.Formula.{max_variables, max_clauses}
 use Rattle.book.specs.Numbers.{starts, numbers_of}
-use Rattle.book.specs.Text.{Token, literal, close, invalid, lines_of, header}
+use Rattle.book.specs.Text.{Token, lines_of, header}
 use Rattle.book.specs.Faults.{outside}
-use Rattle.book.specs.Reading.{Judged, refused, accepted}
-use Rattle.book.specs.Inner.Parse.{OfClauses}
+use Rattle.book.specs.Reading.{refused}
 use Rattle.book.specs.Inner.Walk.{walk, walk_under, walk_start, walk_lines}
 use Rattle.book.specs.Inner.Cursor.{LineStart}
 use Rattle.book.specs.Inner.Body.{Written}
@@ -25,29 +22,6 @@ use Rattle.book.proofs.WordLaws.{walk_lines_lem}
 -- the answer to a text is the answer at its first line that is not skipped
 pub text_start : (text : List ℕ) (at : ℕ) → LineStart text 0 at → walk_lines (lines_of text) ≡ walk_start at (drop at text)
 text_start text at l = walk_lines_lem text ∙ l.same_walk
-
--- the walk refuses clauses by these numbers alone
-if_refused : (b : Bool) (k n : ℕ) (rest : Judged) → OfClauses k → (rest ≡ refused n → OfClauses n) → cond b (refused k) rest ≡ refused n → OfClauses n
-if_refused true k n rest is next e = let same : k ≡ n = cc in subst OfClauses same is
-if_refused false k n rest is next e = next e
-
-pub walk_refuses : (variables clauses : ℕ) (done : List (List ℕ)) (current : List ℕ) (tokens : List Token) (n : ℕ)
-    → walk variables clauses done current tokens ≡ refused n → OfClauses n
-unfolding walk
-walk_refuses variables clauses done current [] n e = go (empty current && eqb (length done) clauses) e
-  where
-    go : (b : Bool) → cond b (accepted (record { variables = variables; clauses = done })) (refused 8) ≡ refused n → OfClauses n
-    go true e = let z : ◌≡◌ {A = ℕ} 0 1 = cc in absurd (omega arith)
-    go false e = let same : 8 ≡ n = cc in inr (inr (inr (inl (sym same))))
-walk_refuses variables clauses done current (invalid ∷ tokens) n e = let same : 4 ≡ n = cc in inl (sym same)
-walk_refuses variables clauses done current (close ∷ tokens) n e =
-    if_refused (empty current) 6 n _ (inr (inr (inl refl))) (walk_refuses variables clauses (done ++ (current ∷ [])) [] tokens n) e
-walk_refuses variables clauses done current (literal l ∷ tokens) n e =
-    if_refused (ltb variables (variable_of l)) 5 n _ (inr (inl refl))
-    (if_refused (eqb (length current) max_clause) 6 n _ (inr (inr (inl refl)))
-    (if_refused (empty current && leb clauses (length done)) 8 n _ (inr (inr (inr (inl refl))))
-    (if_refused (eqb (length (flat done) + length current) max_literals) 9 n _ (inr (inr (inr (inr refl))))
-    (walk_refuses variables clauses done (current ++ (l ∷ [])) tokens n)))) e
 
 module _ (variables clauses : ℕ) where
   pub outside_none : variables ≡ 0 → outside variables clauses ≡ true

@@ -7,7 +7,7 @@ use lib.ListN.{drop, length-take}
 use Rattle.std.proofs.lemmas.Result.{err_from_is_err_and}
 use Rattle.refusals.specs.Refusals.{number_of}
 use Rattle.book.proofs.FaultLaws.{too_long}
-use Rattle.book.proofs.ReadLaws.{answer_refused_by, read_refused, book_within, read_short, read_book}
+use Rattle.book.proofs.ReadLaws.{answer_refused_by, read_refused, book_inside, read_short, read_book}
 use Rattle.book.proofs.read.Goals as goal
 
 pub returns-then-text-gt-MAX_TEXT : goal.returns-then-text-gt-MAX_TEXT
@@ -28,13 +28,13 @@ returns-then-out-length c =
     record { answer = a.0; numbers = a.1 }
 
 pub slice_bounds-numbers-end : goal.slice_bounds-numbers-end
-slice_bounds-numbers-end c = omega (arith, c.in_ok-sizes.ensures.long, book_within c.in_ok-sizes.ensures)
+slice_bounds-numbers-end c = book_inside c.in_ok-sizes.ensures
 
 pub slice_bounds-copy_from_slice-end-3 : goal.slice_bounds-copy_from_slice-end-3
-slice_bounds-copy_from_slice-end-3 c = omega (arith, length-take {A = ℕ}, c.in_ok-sizes.ensures.long, book_within c.in_ok-sizes.ensures)
+slice_bounds-copy_from_slice-end-3 c = omega (arith, length-take {A = ℕ}, book_inside c.in_ok-sizes.ensures)
 
 pub copy_from_slice-requires : goal.copy_from_slice-requires
-copy_from_slice-requires c = omega (arith, length-take {A = ℕ}, c.in_ok-sizes.ensures.long, book_within c.in_ok-sizes.ensures)
+copy_from_slice-requires c = omega (arith, length-take {A = ℕ}, book_inside c.in_ok-sizes.ensures)
 
 pub returns : goal.returns
 returns c =

@@ -1,5 +1,5 @@
 -- What the contracts of src/parse.rt cite: a whole text and its book numbers.
-use Rattle.std.specs.Prelude.{ℕ, ◌≡◌, ◌⊎◌, List, length, take, Result, Ok, Err}
+use Rattle.std.specs.Prelude.{ℕ, ◌≡◌, List, length, take, Result, Ok, Err}
 use Rattle.book.specs.Formula.{Formula, literals, max_book}
 use Rattle.book.specs.Numbers.{numbers_of}
 use Rattle.book.specs.Text.{lines_of}
@@ -23,7 +23,3 @@ pub record Read (text numbers : List ℕ) (variables clauses total : ℕ) : Type
 abbrev pub ParsedSays : List ℕ → List ℕ → Result Sizes Refusal → Type 0
 ParsedSays text numbers (Err refusal) = walk_lines (lines_of text) ≡ refused (number_of refusal)
 ParsedSays text numbers (Ok sizes) = Read text numbers sizes.variables sizes.clauses sizes.literals
-
--- the numbers of the faults that clauses have
-abbrev pub OfClauses : ℕ → Type 0
-OfClauses number = (number ≡ 4) ⊎ ((number ≡ 5) ⊎ ((number ≡ 6) ⊎ ((number ≡ 8) ⊎ (number ≡ 9))))

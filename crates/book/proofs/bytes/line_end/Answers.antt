@@ -1,21 +1,17 @@
-use borrow.Author.Rules.{rules}
-use borrow.Author.Tests.{eq-eqb, ne_eqb}
-use Rattle.base.proofs.Until.{running_start, running_step, running_stop, running_end}
+use Rattle.std.proofs.Common.{rules, tests, ap, ◌∙◌, ◌-◌, ◌+◌, ℕ, length, take, drop}
+use Rattle.std.proofs.lemmas.Iterator.{YieldsList-from_slice}
+use Rattle.std.proofs.lemmas.Iterator.Consumers.{count_from_yields_List}
+use Rattle.std.proofs.lemmas.Iterator.Search.{YieldsList-from_take_while}
+use Rattle.std.specs.Prelude.{not}
 use Rattle.book.specs.Text.{line_end}
+use Rattle.book.proofs.bytes.Laws.{count_until}
 use Rattle.book.proofs.bytes.line_end.Goals as goal
 
-pub loop-i-init : goal.loop-i-init
-loop-i-init c = running_start line_end c.args.text.now c.args.at c.requires
-
-pub returns-then-text-i-eq10 : goal.returns-then-text-i-eq10
-unfolding line_end
-returns-then-text-i-eq10 c =
-    running_stop line_end c.args.text.now c.args.at c.loop-i.i c.loop-i.invariant (search rules) (eq-eqb _ _ c.if-text-i-eq10.true)
-
-pub loop-i-preserved : goal.loop-i-preserved
-unfolding line_end
-loop-i-preserved c =
-    running_step line_end c.args.text.now c.args.at c.loop-i.i c.loop-i.invariant (search rules) (ne_eqb _ _ c.if-text-i-eq10.false)
-
 pub returns : goal.returns
-returns c = running_end line_end c.args.text.now c.args.at c.loop-i.i c.loop-i.invariant (search rules)
+unfolding line_end
+returns c =
+    let text = c.args.text.now in
+    let count =
+    count_from_yields_List c.take_while.result _ c.count.ensures.ran
+    (YieldsList-from_take_while _ (λ (b : ℕ). not (line_end b)) (YieldsList-from_slice (take (length text - c.args.at) (drop c.args.at text)) (cc)) c.take_while.ensures.closure c.take_while.ensures.done (λ x b q k. search (rules, tests))) in
+    ap (λ (n : ℕ). c.args.at + n) (count ∙ count_until line_end text c.args.at)

@@ -1,10 +1,9 @@
-use Prim.Native.Nat.{◌-◌}
-use lib.ListN.{length}
+use Rattle.std.proofs.Common.{◌-◌, length}
 use Rattle.book.proofs.cursor.Laws.{Skipped}
 use Rattle.book.proofs.cursor.line_start.Given as goal
 
-abbrev pub invariant-loop-i : goal.invariant-loop-i
-invariant-loop-i l = Skipped l.text l.at l.i
+abbrev pub invariant-loop-start : goal.invariant-loop-start
+invariant-loop-start l = Skipped l.text l.at l.start
 
-abbrev pub decreases-loop-i : goal.decreases-loop-i
-decreases-loop-i l = length l.text - l.i
+abbrev pub decreases-loop-start : goal.decreases-loop-start
+decreases-loop-start l = length l.text - l.start

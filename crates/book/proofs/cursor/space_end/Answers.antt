@@ -1,25 +1,18 @@
-use mathlib.Core.Path.{sym, ◌∙◌}
-use borrow.Author.Rules.{rules}
-use borrow.Author.Tests.{not-true, not-false}
-use Rattle.book.proofs.cursor.Laws.{space_none, space_blank, space_ends_line, space_ends_word, space_ends_last}
+use Rattle.std.proofs.Common.{rules, tests, arith, ◌∙◌, ◌-◌, length, take, drop, length-drop, ◌≡◌}
+use Rattle.std.proofs.lemmas.Iterator.{YieldsList-from_slice}
+use Rattle.std.proofs.lemmas.Iterator.Consumers.{count_from_yields_List}
+use Rattle.std.proofs.lemmas.Iterator.Search.{YieldsList-from_take_while}
+use Rattle.std.proofs.lemmas.List.Folds.{length-prefix_len}
+use lib.Seq.{take_all}
+use Rattle.book.proofs.cursor.Laws.{is_space, spaces_end}
 use Rattle.book.proofs.cursor.space_end.Goals as goal
 
-pub loop-i-init : goal.loop-i-init
-loop-i-init c = space_none c.args.text.now c.args.at c.requires
-
-pub returns-then-byte-eq10 : goal.returns-then-byte-eq10
-returns-then-byte-eq10 c = space_ends_line c.loop-i.invariant c.if-byte-eq10.true
-
-pub is_blank-requires : goal.is_blank-requires
-is_blank-requires c = tt
-
-pub returns-then-not-is_blank : goal.returns-then-not-is_blank
-returns-then-not-is_blank c =
-    space_ends_word c.loop-i.invariant (sym c.is_blank.ensures ∙ not-true _ c.if-not-is_blank.true-raw)
-
-pub loop-i-preserved : goal.loop-i-preserved
-loop-i-preserved c =
-    space_blank c.loop-i.invariant (search rules) c.if-byte-eq10.false (sym c.is_blank.ensures ∙ not-false _ c.if-not-is_blank.false-raw)
-
 pub returns : goal.returns
-returns c = space_ends_last c.loop-i.invariant (search rules)
+returns c =
+    let text = c.args.text.now in
+    let tail = take (length text - c.args.at) (drop c.args.at text) in
+    let count =
+    count_from_yields_List c.take_while.result _ c.count.ensures.ran
+    (YieldsList-from_take_while _ is_space (YieldsList-from_slice tail (cc)) c.take_while.ensures.closure c.take_while.ensures.done (λ x b q k. (search rules, search (rules, tests)))) in
+    let same : tail ≡ drop c.args.at text = take_all (length text - c.args.at) (drop c.args.at text) (rw (length-drop c.args.at text) (omega arith)) in
+    rw (count ∙ length-prefix_len is_space tail, same) (spaces_end text c.args.at c.requires)
