@@ -17,7 +17,7 @@ use Rattle.book.specs.Faults.{Fault, faults_of}
 use Rattle.book.specs.Reading.{max_text, least, formula_in, as_read, read_formula, accepted, judged, read_text}
 use Rattle.book.specs.Printer.{spelled}
 use Rattle.book.specs.Answer.{read_answer, numbers_after}
-use Rattle.book.specs.declared.Reading.TheVariants.{Book}
+use Rattle.std.specs.Prelude.{Ok}
 use Rattle.book.specs.Inner.Walk.{walk_lines}
 use Rattle.book.proofs.ReadIsWalk.{written_is_walk}
 use Rattle.book.proofs.NumberLaws.{formula_of_numbers, numbers_well_formed, book_fits}
@@ -62,7 +62,7 @@ accepted_well_formed text formula rest h = numbers_well_formed formula rest (acc
 
 -- Where 7,504 numbers are lent, a text that is accepted is answered as a book: 10 is given only where fewer are lent.
 pub accepted_answered : (text : List ℕ) (formula : Formula) (buffer : List ℕ) → read_text text ≡ accepted formula → max_book ≤ length buffer
-    → read_answer (read_text text) (length buffer) ≡ Book formula.variables (length formula.clauses) (length (literals formula))
+    → read_answer (read_text text) (length buffer) ≡ Ok (record { variables = formula.variables; clauses = length formula.clauses; literals = length (literals formula) })
 accepted_answered text formula buffer h room =
     sym (answer_book (read_text text) formula h buffer (omega (arith, book_fits formula (accepted_sound text formula h)))).0
 

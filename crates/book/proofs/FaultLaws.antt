@@ -1,16 +1,16 @@
 -- The answer to a text is the least of its faults, by place, then by number, and never 7; a text without faults is accepted, and no other.
 use Prim.Native.Nat.{ℕ, ◌≤◌, ◌<◌}
 use native.Mathlib.Omega.{arith}
-use mathlib.Core.Path.{◌≡◌, refl, sym, ap, ◌∙◌}
+use mathlib.Core.Path.{◌≡◌, refl, sym, ap, subst, ◌∙◌}
 use mathlib.Core.Logic.{◌⊎◌, inl, inr, ⊎_elim}
-use mathlib.Core.Bool.{Bool, true, false, cond, not, ◌&&◌, ◌||◌, or-true, false≢true, true≢false}
+use mathlib.Core.Bool.{Bool, true, false, cond, ◌&&◌, ◌||◌, or-true, false≢true, true≢false}
 use mathlib.Core.List.{List, [], ◌∷◌, Memᴰ}
 use mathlib.Core.Option.{Option, none, some}
 use lib.Dec.{leb, ltb, eqb}
 use lib.ListN.{length}
 use borrow.Author.Tests.{ltb-true, ltb-false, leb-true, leb-false, eqb-true, eqb-false, lt-ltb, le-leb, eq-eqb, le-ltb}
 use Rattle.base.specs.Lists.{all}
-use Rattle.base.proofs.Bools.{below, never}
+use Rattle.base.proofs.Bools.{below, and_parts}
 use Rattle.base.proofs.Lists.{all_imply, all_both, all_of}
 use Rattle.book.specs.Formula.{Formula, literals}
 use Rattle.book.specs.Numbers.{numbers_of}
@@ -18,8 +18,11 @@ use Rattle.book.specs.Text.{Piece, Token, token_of, lines_of, Header, header, ma
 use Rattle.book.specs.Faults.{Fault, fault, unfinished, faults_at, faults_from, outside, body_of, faults_under, faults_of}
 use Rattle.book.specs.Reading.{max_text, before, earlier, least, formula_in, read_formula, Judged, refused, accepted, judged, read_text}
 use Rattle.book.specs.Answer.{read_answer}
-use Rattle.book.specs.declared.Reading.TheVariants.{Book, Refused}
-use Rattle.book.proofs.LeastFault.{all_fault}
+use Rattle.std.specs.Prelude.{Result, Ok, Err}
+use Rattle.book.specs.declared.Sizes.{Sizes}
+use Rattle.refusals.specs.declared.Refusal.{Refusal}
+use Rattle.refusals.specs.Refusals.{number_of, refusals, first_with, refusal_of}
+use Rattle.book.proofs.LeastFault.{all_fault, fault_at}
 use Rattle.book.proofs.Accepted.{accepted_short}
 
 -- the order of faults, by its parts
@@ -135,56 +138,67 @@ pub too_long : (text : List ℕ) → max_text < length text → read_text text �
 unfolding read_text
 too_long text h = rw (lt-ltb max_text (length text) h)
 
--- No fault has number 7, so no text is refused by it.
-not_7 : Fault → Bool
-not_7 f = not (eqb f.number 7)
+-- Each fault has a number of the table up to 9, so a text is refused by no other: not by 7.
+in_table : Fault → Bool
+in_table f = eqb (number_of (refusal_of f.number)) f.number && leb f.number 9
 
-word_not_7 : (variables clauses : ℕ) (past : List Token) (p : ℕ) (token : Token) → all not_7 (faults_at variables clauses past p token) ≡ true
-unfolding faults_at not_7
-word_not_7 variables clauses past p token =
-    let one : (there : Bool) (n : ℕ) → not (eqb n 7) ≡ true → all not_7 (fault there p n) ≡ true = λ there n h. all_fault not_7 there p n h in
-    all_both not_7 _ _ (one _ 4 refl)
-    (all_both not_7 _ _ (one _ 5 refl) (all_both not_7 _ _ (one _ 6 refl) (all_both not_7 _ _ (one _ 8 refl) (one _ 9 refl))))
+word_in_table : (variables clauses : ℕ) (past : List Token) (p : ℕ) (token : Token) → all in_table (faults_at variables clauses past p token) ≡ true
+unfolding faults_at in_table number_of refusal_of first_with refusals
+word_in_table variables clauses past p token =
+    let one : (there : Bool) (n : ℕ) → in_table (fault_at p n) ≡ true → all in_table (fault there p n) ≡ true = λ there n h. all_fault in_table there p n h in
+    all_both in_table _ _ (one _ 4 refl)
+    (all_both in_table _ _ (one _ 5 refl) (all_both in_table _ _ (one _ 6 refl) (all_both in_table _ _ (one _ 8 refl) (one _ 9 refl))))
 
-words_not_7 : (variables clauses end : ℕ) (past : List Token) (words : List Piece) → all not_7 (faults_from variables clauses end past words) ≡ true
-unfolding faults_from not_7
-words_not_7 variables clauses end past [] = all_fault not_7 (unfinished clauses past) end 8 refl
-words_not_7 variables clauses end past (word ∷ words) =
-    all_both not_7 _ _ (word_not_7 variables clauses past word.place (token_of word.bytes))
-    (words_not_7 variables clauses end (token_of word.bytes ∷ past) words)
+words_in_table : (variables clauses end : ℕ) (past : List Token) (words : List Piece) → all in_table (faults_from variables clauses end past words) ≡ true
+unfolding faults_from in_table number_of refusal_of first_with refusals
+words_in_table variables clauses end past [] = all_fault in_table (unfinished clauses past) end 8 refl
+words_in_table variables clauses end past (word ∷ words) =
+    all_both in_table _ _ (word_in_table variables clauses past word.place (token_of word.bytes))
+    (words_in_table variables clauses end (token_of word.bytes ∷ past) words)
 
-under_not_7 : (place : ℕ) (head : Header) (end : ℕ) (words : List Piece) → all not_7 (faults_under place head end words) ≡ true
-unfolding faults_under not_7
-under_not_7 place malformed end words = all_fault not_7 true place 2 refl
-under_not_7 place (header variables clauses) end words =
-    all_both not_7 _ _ (all_fault not_7 (outside variables clauses) place 3 refl) (words_not_7 variables clauses end [] words)
+under_in_table : (place : ℕ) (head : Header) (end : ℕ) (words : List Piece) → all in_table (faults_under place head end words) ≡ true
+unfolding faults_under in_table number_of refusal_of first_with refusals
+under_in_table place malformed end words = all_fault in_table true place 2 refl
+under_in_table place (header variables clauses) end words =
+    all_both in_table _ _ (all_fault in_table (outside variables clauses) place 3 refl) (words_in_table variables clauses end [] words)
 
-faults_not_7 : (end : ℕ) (lines : List Piece) → all not_7 (faults_of end lines) ≡ true
-unfolding faults_of not_7
-faults_not_7 end [] = all_fault not_7 true end 2 refl
-faults_not_7 end (line ∷ lines) = under_not_7 line.place (header_of line) end (body_of lines)
+faults_in_table : (end : ℕ) (lines : List Piece) → all in_table (faults_of end lines) ≡ true
+unfolding faults_of in_table number_of refusal_of first_with refusals
+faults_in_table end [] = all_fault in_table true end 2 refl
+faults_in_table end (line ∷ lines) = under_in_table line.place (header_of line) end (body_of lines)
 
-not_refused_7 : (text : List ℕ) → read_text text ≡ refused 7 → ⊥
-unfolding not_7
-not_refused_7 text h = ⊎_elim over within (below max_text (length text))
+-- A text is refused by the number of its refusal, which is up to 9.
+pub refused_number : (text : List ℕ) (n : ℕ) → read_text text ≡ refused n → (number_of (refusal_of n) ≡ n) × (n ≤ 9)
+unfolding in_table number_of refusal_of first_with refusals
+refused_number text n h = ⊎_elim over within (below max_text (length text))
   where
-    within : length text ≤ max_text → ⊥
+    within : length text ≤ max_text → (number_of (refusal_of n) ≡ n) × (n ≤ 9)
     within k =
-        let f = answer_is_least text 7 k h in
-        let other = all_of not_7 _ (faults_not_7 (length text) (lines_of text)) f.1.one_of_them in
-        never other (ap not (eq-eqb f.0.number 7 f.2))
+        let f = answer_is_least text n k h in
+        let b = and_parts _ _ (all_of in_table _ (faults_in_table (length text) (lines_of text)) f.1.one_of_them) in
+        subst (λ (m : ℕ). (number_of (refusal_of m) ≡ m) × (m ≤ 9)) f.2 (eqb-true _ _ b.0, leb-true _ _ b.1)
 
-    over : max_text < length text → ⊥
-    over k = let e : refused 1 ≡ refused 7 = sym (too_long text k) ∙ h in let z : ◌≡◌ {A = ℕ} 1 7 = cc in absurd (omega arith)
+    over : max_text < length text → (number_of (refusal_of n) ≡ n) × (n ≤ 9)
+    over k =
+        let e : refused 1 ≡ refused n = sym (too_long text k) ∙ h in
+        let one : 1 ≡ n = cc in
+        subst (λ (m : ℕ). (number_of (refusal_of m) ≡ m) × (m ≤ 9)) one (refl, omega arith)
 
 -- Number 7 is never given.
-pub never_7 : (text : List ℕ) (room : ℕ) → read_answer (read_text text) room ≡ Refused 7 → ⊥
+pub not_refused_7 : (text : List ℕ) → read_text text ≡ refused 7 → ⊥
+unfolding number_of refusal_of first_with refusals
+not_refused_7 text h = absurd (omega (arith, (refused_number text 7 h).0))
+
+pub never_7 : (text : List ℕ) (room : ℕ) → read_answer (read_text text) room ≡ Err (refusal_of 7) → ⊥
+unfolding number_of refusal_of first_with refusals
 never_7 text room = go (read_text text) refl
   where
-    go : (judged : Judged) → read_text text ≡ judged → read_answer judged room ≡ Refused 7 → ⊥
-    go (refused n) e a = let is : n ≡ 7 = cc in not_refused_7 text (e ∙ ap refused is)
+    go : (judged : Judged) → read_text text ≡ judged → read_answer judged room ≡ Err (refusal_of 7) → ⊥
+    go (refused n) e a =
+        let is : refusal_of n ≡ refusal_of 7 = cc in
+        absurd (omega (arith, refused_number text n e, ap number_of is))
     go (accepted formula) e a = book (ltb room (length (numbers_of formula))) a
       where
-        book : (short : Bool) → cond short (Refused 10) (Book formula.variables (length formula.clauses) (length (literals formula))) ≡ Refused 7 → ⊥
-        book true a = let z : ◌≡◌ {A = ℕ} 10 7 = cc in absurd (omega arith)
+        book : (short : Bool) → cond {A = Result Sizes Refusal} short (Err (refusal_of 10)) (Ok (record { variables = formula.variables; clauses = length formula.clauses; literals = length (literals formula) })) ≡ Err (refusal_of 7) → ⊥
+        book true a = let is : refusal_of 10 ≡ refusal_of 7 = cc in absurd (omega (arith, ap number_of is))
         book false a = let z : ◌≡◌ {A = ℕ} 0 1 = cc in absurd (omega arith)

@@ -24,7 +24,7 @@ first_three (a ∷ b ∷ c ∷ l) h = refl
 
 module _ (numbers : List ℕ) where
   -- of starts that rise none is above the next
-  rising_step : (c n : ℕ) → rising numbers c n ≡ true → (k : ℕ) → c ≤ k → k < c + n → start_of numbers k ≤ start_of numbers (suc k)
+  pub rising_step : (c n : ℕ) → rising numbers c n ≡ true → (k : ℕ) → c ≤ k → k < c + n → start_of numbers k ≤ start_of numbers (suc k)
   unfolding rising
   rising_step c zero r k low high = absurd (omega arith)
   rising_step c (suc n) r k low high =
@@ -98,6 +98,18 @@ module _ (numbers : List ℕ) where
     clause_inside c s e h begin end =
         let next : clause_start numbers (c + 1) ≡ clause_start numbers (suc c) = ap (clause_start numbers) (add-one c) in
         (omega (arith, clause_rises c h), omega (arith, start_inside (suc c) h))
+
+    -- the same from the numbers themselves
+    pub clause_read : (clauses c : ℕ) → clauses ≡ clauses_of numbers → c < clauses
+        → (clauses + 4 + get_or numbers (3 + c) 0 ≤ clauses + 4 + get_or numbers (4 + c) 0)
+        × (clauses + 4 + get_or numbers (4 + c) 0 ≤ length numbers)
+        × (part (clauses + 4 + get_or numbers (3 + c) 0) (clauses + 4 + get_or numbers (4 + c) 0) numbers ≡ clause_at numbers c)
+    clause_read clauses c counted h =
+        let next : 4 + c ≡ 3 + (c + 1) = omega arith in
+        let begin : clauses + 4 + get_or numbers (3 + c) 0 ≡ clause_start numbers c = omega arith in
+        let end : clauses + 4 + get_or numbers (4 + c) 0 ≡ clause_start numbers (c + 1) = rw (next, counted) in
+        let inside = clause_inside c _ _ (omega arith) begin end in
+        (inside.0, inside.1, clause_between c _ _ begin end)
 
     pub length_clause : (c : ℕ) → c < clauses_of numbers
         → length (clause_at numbers c) ≡ start_of numbers (suc c) - start_of numbers c

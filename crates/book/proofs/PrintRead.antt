@@ -16,7 +16,7 @@ use Rattle.book.specs.Formula.{Formula, literals, max_variables, max_literals, m
 use Rattle.book.specs.Text.{Piece, Token, literal, blank, line_end, decimal, unsigned, is_digit, unsigned_token, negative_token, token_of, header, headed, header_in, header_of}
 use Rattle.book.specs.Reading.{max_text, read_formula, accepted, read_text}
 use Rattle.book.specs.Answer.{read_answer}
-use Rattle.book.specs.declared.Reading.TheVariants.{Book}
+use Rattle.std.specs.Prelude.{Ok}
 use Rattle.book.specs.Printer.{print_number, print_literal, print_clause, spelled, print_text}
 use Rattle.book.specs.Inner.Walk.{tokens_of, walk_under, walk_start, read_judged}
 use Rattle.book.specs.Inner.Words.{words_line, words_behind, words_here, words_start}
@@ -304,5 +304,5 @@ print_read formula h few =
 pub printed_answered : (formula : Formula) (buffer : List ℕ) → sound formula ≡ true → length (flat (map spelled formula.clauses)) ≤ max_literals
     → max_book ≤ length buffer
     → read_answer (read_text (print_text formula)) (length buffer)
-    ≡ Book formula.variables (length formula.clauses) (length (literals formula))
+    ≡ Ok (record { variables = formula.variables; clauses = length formula.clauses; literals = length (literals formula) })
 printed_answered formula buffer h few room = accepted_answered (print_text formula) formula buffer (print_read formula h few) room

@@ -1,8 +1,8 @@
 -- The form of book numbers taken apart: what well-formed numbers are, and that they are the numbers of a sound formula.
 use Prim.Native.Nat.{ℕ, ◌+◌, ◌≤◌, ◌<◌}
-use mathlib.Core.Bool.{true, false}
+use mathlib.Core.Bool.{Bool, true, false, ◌&&◌}
 use mathlib.Core.List.{List}
-use mathlib.Core.Path.{◌≡◌, ◌∙◌}
+use mathlib.Core.Path.{◌≡◌, refl, ◌∙◌}
 use native.Mathlib.Omega.{arith}
 use borrow.Author.Tests.{leb-true, le-leb, eqb-true, eq-eqb}
 use lib.Dec.{leb, eqb}
@@ -97,3 +97,35 @@ module _ (numbers : List ℕ) where
   -- numbers that are not parted, or beyond the limits, are not well formed
   pub not_well_formed : (Parted numbers → Limited numbers → ⊥) → well_formed numbers ≡ false
   not_well_formed never = refuted _ λ well. never (well_formed_parted well) (well_formed_limited well)
+
+  -- the form of book numbers, test by test
+  pub well_formed_chain : well_formed numbers
+      ≡ (leb (clauses_of numbers + literals_of numbers + 4) (length numbers)
+      && eqb (start_of numbers 0) 0
+      && eqb (start_of numbers (clauses_of numbers)) (literals_of numbers)
+      && rising numbers 0 (clauses_of numbers)
+      && leb 1 (variables_of numbers)
+      && leb (variables_of numbers) max_variables
+      && leb (clauses_of numbers) max_clauses
+      && leb (literals_of numbers) max_literals
+      && all (sound_clause (variables_of numbers)) (clauses_from numbers 0 (clauses_of numbers)))
+  unfolding well_formed sound
+  well_formed_chain =
+      where_first_hold _ _ _ _ _ _ _ _ _ _ (λ long first last rises.
+      within_chain (record { long = leb-true _ _ long; first = eqb-true _ _ first; last = eqb-true _ _ last; rises = rises }))
+    where
+      where_first_hold : (a b c d x e f g h i : Bool) → (a ≡ true → b ≡ true → c ≡ true → d ≡ true → x ≡ (e && f && g && h && i))
+          → (a && b && c && d && x) ≡ (a && b && c && d && e && f && g && h && i)
+      where_first_hold true true true true x e f g h i same = same refl refl refl refl
+      where_first_hold true true true false x e f g h i same = refl
+      where_first_hold true true false d x e f g h i same = refl
+      where_first_hold true false c d x e f g h i same = refl
+      where_first_hold false b c d x e f g h i same = refl
+
+      within_chain : Parted numbers → sound (formula_of numbers)
+          ≡ (leb 1 (variables_of numbers)
+          && leb (variables_of numbers) max_variables
+          && leb (clauses_of numbers) max_clauses
+          && leb (literals_of numbers) max_literals
+          && all (sound_clause (variables_of numbers)) (clauses_from numbers 0 (clauses_of numbers)))
+      within_chain parted = rw (clauses_counted numbers, length_literals numbers parted)

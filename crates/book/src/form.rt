@@ -4,27 +4,16 @@ ghost use Rattle.base.specs.Lists.{all};
 ghost use Rattle.book.specs.Inner.Form.{Parted};
 ghost use Rattle.book.specs.Formula.{max_variables, max_clauses, sound_clause};
 ghost use Rattle.book.specs.Inner.Marks.{Bounded, Marked};
-ghost use Rattle.book.specs.Numbers.{variables_of, clauses_of, literals_of, clauses_from, rising, well_formed};
+ghost use Rattle.book.specs.Numbers.{variables_of, clauses_of, literals_of, clause_at, clauses_from, rising, well_formed};
 
 use crate::limits::{MAX_CLAUSE, MAX_CLAUSES, MAX_LITERALS, MAX_VARIABLES, VARIABLE_MARKS};
 use crate::marks::mark;
 
-pub(crate) fn wide(x: u32) -> usize
-    ensures value { result ≡ x }
-    ensures upper_bound { result < 4294967296 }
-{
-    x as usize
-}
-
 // The number at a place, 0 where there is none.
 fn number_at(book: &[u32], place: usize) -> usize
-    ensures value { result ≡ get_or book.now place 0 }
-    ensures upper_bound { result < 4294967296 }
+    ensures { result ≡ get_or book.now place 0 }
 {
-    if place < book.len() {
-        return wide(book[place]);
-    }
-    0
+    book.get(place).copied().unwrap_or(0) as usize
 }
 
 // V, the number of variables.
@@ -53,14 +42,19 @@ fn starts_rise(book: &[u32], clauses: usize) -> bool
     requires { clauses + 4 ≤ length book.now }
     ensures { result ≡ rising book.now 0 clauses }
 {
-    let mut c = 0;
-    while c < clauses {
-        if book[3 + c] > book[4 + c] {
-            return false;
-        }
-        c += 1;
-    }
-    true
+    book[3..clauses + 4].is_sorted_by(|start, next| start <= next)
+}
+
+// The literals of clause c.
+fn clause(book: &[u32], clauses: usize, c: usize) -> &[u32]
+    requires parted { Parted book.now }
+    requires clauses_value { clauses ≡ clauses_of book.now }
+    requires c_bound { c < clauses }
+    ensures { result.now ≡ clause_at book.now c }
+{
+    let start = clauses + 4 + book[3 + c] as usize;
+    let end = clauses + 4 + book[4 + c] as usize;
+    &book[start..end]
 }
 
 // The clause has at most 255 literals of the V variables, no variable twice. No variable bears the tag before.
@@ -78,19 +72,11 @@ fn clause_sound(
     if clause.len() > MAX_CLAUSE {
         return false;
     }
-    let mut i = 0;
-    while i < clause.len() {
-        let literal = wide(clause[i]);
-        if literal < 2 {
+    for &l in clause {
+        let literal = l as usize;
+        if !(2..=2 * variables + 1).contains(&literal) || mark(marks, literal / 2, tag) {
             return false;
         }
-        if literal > 2 * variables + 1 {
-            return false;
-        }
-        if mark(marks, literal / 2, tag) {
-            return false;
-        }
-        i += 1;
     }
     true
 }
@@ -104,50 +90,30 @@ fn clauses_sound(book: &[u32], variables: usize, clauses: usize) -> bool
     ensures { result ≡ all (sound_clause variables) (clauses_from book.now 0 clauses) }
 {
     let mut marks = [0u16; VARIABLE_MARKS];
-    let mut tag = 0u16;
-    let mut c = 0;
-    while c < clauses {
-        let start = clauses + 4 + wide(book[3 + c]);
-        let end = clauses + 4 + wide(book[4 + c]);
-        tag += 1;
-        if !clause_sound(&book[start..end], variables, tag, &mut marks) {
+    for c in 0..clauses {
+        let tag = c as u16 + 1;
+        if !clause_sound(clause(book, clauses, c), variables, tag, &mut marks) {
             return false;
         }
-        c += 1;
     }
     true
 }
 
 // The numbers have the form of a book: number 11 of the table is given exactly where this is false.
+#[tactic(auto, using(crate::proofs::WellFormedLaws::well_formed_chain))]
 pub fn well_formed(book: &[u32]) -> bool
     ensures { result ≡ well_formed book.now }
 {
-    let variables = number_at(book, 0);
-    let clauses = number_at(book, 1);
-    let literals = number_at(book, 2);
-    if book.len() < clauses + literals + 4 {
-        return false;
-    }
-    if number_at(book, 3) != 0 {
-        return false;
-    }
-    if number_at(book, 3 + clauses) != literals {
-        return false;
-    }
-    if !starts_rise(book, clauses) {
-        return false;
-    }
-    if variables < 1 {
-        return false;
-    }
-    if variables > MAX_VARIABLES {
-        return false;
-    }
-    if clauses > MAX_CLAUSES {
-        return false;
-    }
-    if literals > MAX_LITERALS {
-        return false;
-    }
-    clauses_sound(book, variables, clauses)
+    let variables = variables(book);
+    let clauses = clauses(book);
+    let literals = literals(book);
+    book.len() >= clauses + literals + 4
+        && number_at(book, 3) == 0
+        && number_at(book, 3 + clauses) == literals
+        && starts_rise(book, clauses)
+        && 1 <= variables
+        && variables <= MAX_VARIABLES
+        && clauses <= MAX_CLAUSES
+        && literals <= MAX_LITERALS
+        && clauses_sound(book, variables, clauses)
 }

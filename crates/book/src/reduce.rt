@@ -5,23 +5,8 @@ ghost use Rattle.book.specs.Formula.{variable_of, max_variables, max_book};
 ghost use Rattle.book.specs.Reading.{as_read};
 ghost use Rattle.book.specs.Inner.Marks.{Bounded, Marked};
 
-use crate::form::wide;
 use crate::limits::{MAX_BOOK, VARIABLE_MARKS};
 use crate::marks::mark;
-
-// Whether the literal stands among these.
-fn holds(literals: &[u32], l: u32) -> bool
-    ensures { result ≡ member l literals.now }
-{
-    let mut i = 0;
-    while i < literals.len() {
-        if literals[i] == l {
-            return true;
-        }
-        i += 1;
-    }
-    false
-}
 
 // Writes a clause as read to `out` from `at` on, and answers where it ends. No variable bears the tag before.
 pub(crate) fn put_clause(
@@ -39,19 +24,13 @@ pub(crate) fn put_clause(
     ensures out_len_2 { (length out.new ≡ max_book) × Bounded marks.new tag }
 {
     let mut end = at;
-    let mut i = 0;
-    while i < clause.len() {
-        let l = clause[i];
-        if mark(marks, wide(l / 2), tag) {
-            let whole = &out[..];
-            if !holds(&whole[at..end], l) {
-                return at;
-            }
-        } else {
+    for &l in clause {
+        if !mark(marks, l as usize / 2, tag) {
             out[end] = l;
             end += 1;
+        } else if !out[at..end].contains(&l) {
+            return at;
         }
-        i += 1;
     }
     end
 }

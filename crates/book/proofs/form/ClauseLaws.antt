@@ -21,11 +21,10 @@ module _ (variables : ℕ) (clause : List ℕ) where
   pub refuse_long : max_clause < length clause → sound_clause variables clause ≡ false
   refuse_long h = refuted _ (λ e. omega (arith, clause_parts variables clause e))
 
-  pub refuse_low : (i : ℕ) → i < length clause → get_or clause i 0 < 2 → sound_clause variables clause ≡ false
-  refuse_low i h low = refuted _ (λ e. omega (arith, literal_parts _ _ (clause_literal variables clause (clause_parts variables clause e) i h)))
-
-  pub refuse_high : (i : ℕ) → i < length clause → 2 * variables + 1 < get_or clause i 0 → sound_clause variables clause ≡ false
-  refuse_high i h high = refuted _ (λ e. omega (arith, literal_parts _ _ (clause_literal variables clause (clause_parts variables clause e) i h)))
+  pub refuse_outside : (i : ℕ) → i < length clause → (2 ≤ get_or clause i 0 → get_or clause i 0 ≤ 2 * variables + 1 → ⊥)
+      → sound_clause variables clause ≡ false
+  refuse_outside i h outside =
+      refuted _ (λ e. let p = literal_parts _ _ (clause_literal variables clause (clause_parts variables clause e) i h) in outside p.0 p.1)
 
 -- The first i literals are passed: they are within the variables, no variable stands twice, and the marks bear the variables seen.
 pub record Passed (variables tag : ℕ) (clause marks : List ℕ) (i : ℕ) : Type 0 where

@@ -10,7 +10,8 @@ use lib.Dec.{leb, eqb}
 use lib.ListN.{length, get_or, set, take, drop, length-set}
 use lib.Seq.{take-suc, take-suc-set, take_all, take-take, take_at, drop_at, length-take-le}
 use Rattle.base.specs.Lists.{all, member, distinct, firsts}
-use Rattle.base.proofs.Bools.{never, refuted}
+use Rattle.base.proofs.Bools.{never, refuted, eqb_sym}
+use Rattle.std.specs.List.{list_any}
 use Rattle.base.proofs.Lists.{part, part_taken, all_at, length_more}
 use Rattle.base.proofs.Members.{member_at, member_front, distinct_more}
 use Rattle.base.proofs.Occurrences.{member-map, map-member}
@@ -20,6 +21,12 @@ use Rattle.book.specs.Reading.{as_read}
 use Rattle.book.specs.Inner.Marks.{Bounded, Marked}
 use Rattle.book.proofs.AsReadLaws.{both_ways_met, firsts_once, as_read_none, as_read_firsts}
 use Rattle.book.proofs.marks.Laws.{marked_test, marked_more, seen_more}
+
+-- what `contains` says of numbers
+pub member_any : (x : ℕ) (xs : List ℕ) → list_any (λ (y : ℕ). eqb y x) xs ≡ member x xs
+unfolding member
+member_any x [] = refl
+member_any x (y ∷ ys) = rw (eqb_sym y x, member_any x ys)
 
 -- the clause's literals are within the variables, and there is room for all of them
 pub record Room (clause before : List ℕ) (at : ℕ) : Type 0 where
@@ -57,8 +64,12 @@ put_none {clause} {before} {at} room m =
     }
 
 module _ {clause before : List ℕ} {at tag : ℕ} {marks out : List ℕ} {end i : ℕ} (p : Put clause before at tag marks out end i) where
-  pub put_short : (at ≤ end) × (end ≤ at + i)
+  put_short : (at ≤ end) × (end ≤ at + i)
   put_short = (omega (arith, p.ends), omega (arith, p.ends, firsts_short (take i clause), length-take-le i clause p.bound))
+
+  -- while literals are left there is room for one more
+  pub put_inside : i < length clause → end < max_book
+  put_inside h = omega (arith, put_short, p.room.fits)
 
   front_long : length (take at before) ≡ at
   front_long = length-take-le at before (omega (arith, p.room.long, p.room.fits))

@@ -1,12 +1,13 @@
 -- What the contracts of src/parse.rt cite: a whole text and its book numbers.
-use Rattle.std.specs.Prelude.{ℕ, ◌≡◌, List, length, take}
+use Rattle.std.specs.Prelude.{ℕ, ◌≡◌, List, length, take, Result, Ok, Err}
 use Rattle.book.specs.Formula.{Formula, literals, max_book}
 use Rattle.book.specs.Numbers.{numbers_of}
 use Rattle.book.specs.Text.{lines_of}
 use Rattle.book.specs.Reading.{read_formula, refused, accepted}
 use Rattle.book.specs.Inner.Walk.{walk_lines}
-use Rattle.book.specs.declared.parse.Parsed.{Parsed}
-use Rattle.book.specs.declared.parse.Parsed.TheVariants as p
+use Rattle.book.specs.declared.Sizes.{Sizes}
+use Rattle.refusals.specs.declared.Refusal.{Refusal}
+use Rattle.refusals.specs.Refusals.{number_of}
 
 -- the formula of the whole text, as written, and the numbers of it as read
 pub record Read (text numbers : List ℕ) (variables clauses total : ℕ) : Type 0 where
@@ -19,6 +20,6 @@ pub record Read (text numbers : List ℕ) (variables clauses total : ℕ) : Type
   pub front : take (length (numbers_of (read_formula written))) numbers ≡ numbers_of (read_formula written)
 
 -- that, or the first fault
-abbrev pub ParsedSays : List ℕ → List ℕ → Parsed → Type 0
-ParsedSays text numbers (p.Refused number) = walk_lines (lines_of text) ≡ refused number
-ParsedSays text numbers (p.Book variables clauses total) = Read text numbers variables clauses total
+abbrev pub ParsedSays : List ℕ → List ℕ → Result Sizes Refusal → Type 0
+ParsedSays text numbers (Err refusal) = walk_lines (lines_of text) ≡ refused (number_of refusal)
+ParsedSays text numbers (Ok sizes) = Read text numbers sizes.variables sizes.clauses sizes.literals

@@ -1,83 +1,23 @@
-use Prim.Native.Nat.{ℕ, ◌+◌}
-use mathlib.Core.Bool.{false≢true}
-use mathlib.Core.List.{List}
-use mathlib.Core.Path.{◌≡◌, sym, ◌∙◌, ap, ap₂}
+use mathlib.Core.Path.{◌≡◌, sym, ◌∙◌}
+use mathlib.Core.Bool.{true}
 use native.Mathlib.Omega.{arith}
-use borrow.Author.Tests.{not-true, not-false}
-use lib.ListN.{get_or}
-use Rattle.base.specs.Lists.{all}
-use Rattle.book.specs.Inner.Form.{Parted}
-use Rattle.book.specs.Formula.{sound_clause}
-use Rattle.book.specs.Numbers.{clauses_of, start_of, clauses_from, rising}
-use Rattle.book.proofs.WellFormedLaws.{Limited, clauses_decide, not_well_formed}
+use Rattle.std.proofs.lemmas.Grind.{common_steps}
+use Rattle.base.proofs.Bools.{never}
+use Rattle.book.proofs.WellFormedLaws.{not_well_formed}
 use Rattle.book.proofs.form.well_formed.Goals as goal
+use Rattle.book.proofs.form.well_formed.Goals.{then-book-clauses, else-book-clauses, then-number_at-eq0, else-number_at-eq0, then-number_at-literals, else-number_at-literals, then-starts_rise, else-starts_rise, then-variables-ge1, else-variables-ge1, then-variables-le-MAX_VARIABLES, else-variables-le-MAX_VARIABLES, then-clauses-le-MAX_CLAUSES, else-clauses-le-MAX_CLAUSES}
 
-pub returns-then-book-clauses : goal.returns-then-book-clauses
-returns-then-book-clauses c = sym (not_well_formed _ (λ parted limited. omega arith))
-
-pub returns-then-number_at-ne0 : goal.returns-then-number_at-ne0
-returns-then-number_at-ne0 c = sym (not_well_formed _ (λ parted limited. omega arith))
-
-pub returns-then-number_at-literals : goal.returns-then-number_at-literals
-returns-then-number_at-literals c =
-    let entry : List ℕ = c.args.book.now in
-    let last_start : c.number_at-2.result ≡ start_of (entry) (clauses_of (entry)) = c.number_at-2.ensures.value
-    ∙ ap (λ k. get_or (entry) (3 + k) 0) c.number_at-clauses.ensures.value in
-    sym (not_well_formed _ (λ parted limited. omega (arith, last_start)))
-
-pub returns-then-not-starts_rise : goal.returns-then-not-starts_rise
-returns-then-not-starts_rise c =
-    let entry : List ℕ = c.args.book.now in
-    let starts-answer : c.starts_rise.result ≡ rising (entry) 0 (clauses_of (entry)) = c.starts_rise.ensures
-    ∙ ap (rising (entry) 0) c.number_at-clauses.ensures.value in
-    sym
-    (not_well_formed _ (λ parted limited. false≢true (sym (not-true _ c.if-not-starts_rise.true-raw) ∙ (starts-answer ∙ parted.rises))))
-
-pub returns-then-variables-lt1 : goal.returns-then-variables-lt1
-returns-then-variables-lt1 c = sym (not_well_formed _ (λ parted limited. omega arith))
-
-pub returns-then-variables-gt-MAX_VARIABLES : goal.returns-then-variables-gt-MAX_VARIABLES
-returns-then-variables-gt-MAX_VARIABLES c = sym (not_well_formed _ (λ parted limited. omega arith))
-
-pub returns-then-clauses-gt-MAX_CLAUSES : goal.returns-then-clauses-gt-MAX_CLAUSES
-returns-then-clauses-gt-MAX_CLAUSES c = sym (not_well_formed _ (λ parted limited. omega arith))
-
-pub returns-then-literals-gt-MAX_LITERALS : goal.returns-then-literals-gt-MAX_LITERALS
-returns-then-literals-gt-MAX_LITERALS c = sym (not_well_formed _ (λ parted limited. omega arith))
-
-pub clauses_sound-requires : goal.clauses_sound-requires
-clauses_sound-requires c =
-    let entry : List ℕ = c.args.book.now in
-    let last_start : c.number_at-2.result ≡ start_of (entry) (clauses_of (entry)) = c.number_at-2.ensures.value
-    ∙ ap (λ k. get_or (entry) (3 + k) 0) c.number_at-clauses.ensures.value in
-    let starts-answer : c.starts_rise.result ≡ rising (entry) 0 (clauses_of (entry)) = c.starts_rise.ensures
-    ∙ ap (rising (entry) 0) c.number_at-clauses.ensures.value in
-    let numbers_parted : Parted (entry) = record {
-      long = omega arith;
-      first = omega arith;
-      last = omega (arith, last_start);
-      rises = sym (starts-answer) ∙ not-false _ c.if-not-starts_rise.false-raw;
-    } in
-    record { parted = numbers_parted; clauses_value = omega arith; clauses_le_max_clauses = omega arith; variables_le_max_variables = omega arith }
-
-pub returns : goal.returns
-returns c =
-    let entry : List ℕ = c.args.book.now in
-    let last_start : c.number_at-2.result ≡ start_of (entry) (clauses_of (entry)) = c.number_at-2.ensures.value
-    ∙ ap (λ k. get_or (entry) (3 + k) 0) c.number_at-clauses.ensures.value in
-    let starts-answer : c.starts_rise.result ≡ rising (entry) 0 (clauses_of (entry)) = c.starts_rise.ensures
-    ∙ ap (rising (entry) 0) c.number_at-clauses.ensures.value in
-    let numbers_parted : Parted (entry) = record {
-      long = omega arith;
-      first = omega arith;
-      last = omega (arith, last_start);
-      rises = sym (starts-answer) ∙ not-false _ c.if-not-starts_rise.false-raw;
-    } in
-    let numbers-limited : Limited (entry) = omega arith in
-    c.clauses_sound.ensures
-    ∙ ap₂
-    (λ v n.
-    all (sound_clause v) (clauses_from (entry) 0 n))
-    c.number_at-variables.ensures.value
-    c.number_at-clauses.ensures.value
-    ∙ sym (clauses_decide _ (numbers_parted) (numbers-limited))
+-- where a test fails: of well-formed numbers each holds
+pub returns-else-literals-le-MAX_LITERALS : goal.returns-else-literals-le-MAX_LITERALS
+returns-else-literals-le-MAX_LITERALS c =
+    c.if-literals-le-MAX_LITERALS.false
+    ∙ sym
+    (not_well_formed _ (λ parted limited.
+    let v1 : c.if-book-clauses.value ≡ true = elim c.if-book-clauses.branch [ then-book-clauses w ↦ grind (arith, common_steps, parted.first) | else-book-clauses w ↦ grind (arith, common_steps, parted.long) ] in
+    let v2 : c.if-number_at-eq0.value ≡ true = elim c.if-number_at-eq0.branch [ then-number_at-eq0 w ↦ grind (arith, common_steps, parted.last) | else-number_at-eq0 w ↦ absurd (never v1 w.if-number_at-eq0.false) ] in
+    let v3 : c.if-number_at-literals.value ≡ true = elim c.if-number_at-literals.branch [ then-number_at-literals w ↦ grind (arith, common_steps, parted.rises) | else-number_at-literals w ↦ absurd (never v2 w.if-number_at-literals.false) ] in
+    let v4 : c.if-starts_rise.value ≡ true = elim c.if-starts_rise.branch [ then-starts_rise w ↦ grind (arith, common_steps, limited.some_variables) | else-starts_rise w ↦ absurd (never v3 w.if-starts_rise.false) ] in
+    let v5 : c.if-variables-ge1.value ≡ true = elim c.if-variables-ge1.branch [ then-variables-ge1 w ↦ grind (arith, common_steps, limited.variables) | else-variables-ge1 w ↦ absurd (never v4 w.if-variables-ge1.false) ] in
+    let v6 : c.if-variables-le-MAX_VARIABLES.value ≡ true = elim c.if-variables-le-MAX_VARIABLES.branch [ then-variables-le-MAX_VARIABLES w ↦ grind (arith, common_steps, limited.clauses) | else-variables-le-MAX_VARIABLES w ↦ absurd (never v5 w.if-variables-le-MAX_VARIABLES.false) ] in
+    let v7 : c.if-clauses-le-MAX_CLAUSES.value ≡ true = elim c.if-clauses-le-MAX_CLAUSES.branch [ then-clauses-le-MAX_CLAUSES w ↦ grind (arith, common_steps, limited.literals) | else-clauses-le-MAX_CLAUSES w ↦ absurd (never v6 w.if-clauses-le-MAX_CLAUSES.false) ] in
+    never v7 c.if-literals-le-MAX_LITERALS.false))
