@@ -38,10 +38,9 @@ pub(crate) fn take_out(book: &[u32], session: &mut [u32], walk: Walk) -> Walk
     requires { Fits (variables_of book.now) (clauses_of book.now) session.old × Standing (variables_of book.now) (clauses_of book.now) walk }
     ensures { TakenOut linked (variables_of book.now) (clauses_of book.now) session.old session.new walk result }
 {
-    let slot = walk.slot;
     let node = session[link_slot(book::variables(book), book::clauses(book), walk.node)];
-    session[slot] = node;
-    Walk { node, slot }
+    session[walk.slot] = node;
+    Walk { node, ..walk }
 }
 
 // The clause of a node goes to the front of a literal's list.

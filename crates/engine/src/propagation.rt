@@ -9,7 +9,8 @@ use crate::visit::visit_clause;
 use layout::offsets::{CONFLICT, LENGTH, TRAIL};
 use layout::values::opposite;
 
-// Handles the trail literals behind the first `handled` ones, in trail order. A conflict ends it, whatever is unread.
+// Handles the trail literals behind the first `handled` ones, in trail order, and those that join it meanwhile. A conflict ends it, whatever
+// is unread.
 pub(crate) fn propagate(book: &[u32], session: &mut [u32], handled: usize)
     requires { Propagating book.now session.old handled }
     ensures { (at : Propagating book.now session.old handled) → Becomes book.now session.old session.new (runs.propagate (formula_of book.now) handled at.run) }
