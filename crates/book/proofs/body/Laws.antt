@@ -28,7 +28,6 @@ same_refusal e = cc
 chain : (over long surplus many : Bool) (rest : Judged) (r : Refusal)
     → cond over (Err LargeVariable) (cond long (Err ClauseLength) (cond surplus (Err ClauseCount) (cond many (Err LiteralCount) (Ok (tt {0}))))) ≡ Err r
     → cond over (refused 5) (cond long (refused 6) (cond surplus (refused 8) (cond many (refused 9) rest))) ≡ refused (number_of r)
-unfolding number_of
 chain true long surplus many rest r e = ap (λ (r : Refusal). refused (number_of r)) (same_refusal e)
 chain false true surplus many rest r e = ap (λ (r : Refusal). refused (number_of r)) (same_refusal e)
 chain false false true many rest r e = ap (λ (r : Refusal). refused (number_of r)) (same_refusal e)

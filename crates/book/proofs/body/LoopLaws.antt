@@ -101,7 +101,6 @@ module _ {text : List ℕ} {start variables clauses : ℕ} {numbers marks curren
   here tokens e = sym g.same_walk ∙ ap (walk variables clauses g.done clause) e
 
   pub so_far_invalid : (next : ℕ) → NextWord text at invalid next → walk variables clauses [] [] (tokens_here text start) ≡ refused (number_of Word)
-  unfolding number_of
   so_far_invalid next w = here (invalid ∷ tokens_here text next) w.tokens ∙ walk_invalid variables clauses g.done clause (tokens_here text next)
 
   so_far_open : (next : ℕ) → NoWord text at next → (opened ≡ 0 → ⊥) → walk variables clauses [] [] (tokens_here text start) ≡ refused 8
@@ -111,7 +110,6 @@ module _ {text : List ℕ} {start variables clauses : ℕ} {numbers marks curren
   so_far_few next w n = here [] w.tokens ∙ walk_few variables clauses g.done clause (λ z. n (sym g.closed_is ∙ z))
 
   pub so_far_short : (next : ℕ) → NextWord text at close next → opened ≡ 0 → walk variables clauses [] [] (tokens_here text start) ≡ refused (number_of ClauseLength)
-  unfolding number_of
   so_far_short next w e =
       here (close ∷ tokens_here text next) w.tokens ∙ walk_short variables clauses g.done clause (tokens_here text next) (opened_is ∙ e)
 
@@ -127,7 +125,6 @@ module _ {text : List ℕ} {start variables clauses : ℕ} {numbers marks curren
 
   -- what is said where the text ends, it says of the text
   pub so_far_end : (next : ℕ) → NoWord text at next → (r : Result ℕ Refusal) → EndSays clauses closed opened end r → BodySays text start variables clauses numbers r
-  unfolding number_of
   so_far_end next w (Err refusal) (e, n) = ⊎_elim (so_far_open next w) (so_far_few next w) n ∙ ap (λ (r : Refusal). refused (number_of r)) (sym e)
   so_far_end next w (Ok literals) (h, k, e) = so_far_all next w literals h k e
 
