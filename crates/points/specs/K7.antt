@@ -1,5 +1,5 @@
 -- Points of request K7, evaluated: fixings and their refusals, take-backs that reach a fixed choice, lent sessions with an f.
-use Rattle.std.specs.Prelude.{ℕ, ◌≡◌, refl, true, false, List, [], ◌∷◌, set}
+use Rattle.std.specs.Prelude.{ℕ, ◌≡◌, refl, true, false, List, [], ◌∷◌, set, Ok}
 use Rattle.base.specs.Lists.{all, any, keep, flat, member, distinct, same, times, table, up_to, without}
 use Rattle.book.specs.Formula.{positive, negative, literal_within, sound_clause, sound}
 use Rattle.book.specs.Numbers.{starts, numbers_of, clauses_from, rising, well_formed}
@@ -11,9 +11,7 @@ use Rattle.run.specs.Ceiling.{count_at_latest, checks_since}
 use Rattle.layout.specs.Layout.{fixed_at, max_session, value_number, level_number, node_of, watch_literal, first_node, behind, head_number, link_number, watch_number, encode, level_before, held_trail, held_cells, chain_from, held_lists, held}
 use Rattle.validation.specs.Validation.{has_reason, is_justified, is_watching, is_guarded, watches_hold, is_fixpoint, is_conflict, is_listed, is_valid, passes, call_refusal, read_refusal}
 use Rattle.session.specs.Outcomes.{open_refusal, open_numbers, overwritten, session_decide_refusal, session_backtrack_refusal, session_fix_refusal, fix_answer, fix_numbers, fixed_answer, calls_of}
-use Rattle.session.specs.declared.Back.TheVariants as back
-use Rattle.session.specs.declared.Count.TheVariants as count
-use Rattle.points.specs.Points.{listing, opposed, torn, worn}
+use Rattle.points.specs.Points.{listing, opposed, torn, worn, refuses}
 
 -- the listing's book with the choices -1 and -2 in force, and then other calls
 abbrev after : List Call → Run
@@ -63,15 +61,15 @@ pub record Points : Type 0 where
   -- A contradiction that a list of calls leads to: its choice is not fixed, and can be taken back.
   pub way_back : refusal torn (backtrack_by 1) (reference torn (fix_by 0 ∷ decision (negative 1) ∷ [])) ≡ 0
   -- The calls of the session.
-  pub accepted : fix_answer (numbers_of listing) (fixed_session 0) 1 ≡ back.Done
+  pub accepted : fix_answer (numbers_of listing) (fixed_session 0) 1 ≡ Ok tt
   pub numbers : fix_numbers (numbers_of listing) (fixed_session 0) 1 ≡ fixed_session 1
-  pub refused : fix_answer (numbers_of listing) (fixed_session 2) 1 ≡ back.Refused 22
+  pub refused : fix_answer (numbers_of listing) (fixed_session 2) 1 ≡ refuses 22
   pub unchanged : fix_numbers (numbers_of listing) (fixed_session 2) 1 ≡ fixed_session 2
-  pub said : fixed_answer (numbers_of listing) (fixed_session 2) ≡ count.Of 2
+  pub said : fixed_answer (numbers_of listing) (fixed_session 2) ≡ Ok 2
   -- The examination wants f at most the choices in force.
   pub at_most : passes listing (fixed_session 2) ≡ true
   pub too_many : passes listing (fixed_session 3) ≡ false
-  pub too_many_said : fixed_answer (numbers_of listing) (fixed_session 3) ≡ count.Refused 12
+  pub too_many_said : fixed_answer (numbers_of listing) (fixed_session 3) ≡ refuses 12
   -- A session in contradiction with its one choice fixed, which can only be lent so, passes and is stuck.
   pub stuck_passes : passes torn (conflict_session 1) ≡ true
   pub stuck_decision : session_decide_refusal (numbers_of torn) (conflict_session 1) (positive 3) ≡ 14

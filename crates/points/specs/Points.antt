@@ -1,5 +1,7 @@
 -- The marked points of document 01 on text and run, as one table of equations that the definitions compute.
-use Rattle.std.specs.Prelude.{ℕ, zero, suc, ◌≡◌, refl, true, false, List, [], ◌∷◌, ◌++◌, length, take}
+use Rattle.std.specs.Prelude.{ℕ, zero, suc, ◌≡◌, refl, true, false, List, [], ◌∷◌, ◌++◌, map, length, take, Result, Ok, Err}
+use Rattle.refusals.specs.declared.Refusal.{Refusal}
+use Rattle.refusals.specs.Refusals.{number_of, refusals, first_with, refusal_of}
 use Rattle.base.specs.Lists.{all, any, keep, flat, empty, member, distinct, same, begins, times, table, up_to, sum, without, firsts}
 use Rattle.book.specs.Formula.{Formula, positive, negative, literal_within, sound_clause, sound}
 use Rattle.book.specs.Numbers.{starts, numbers_of, clauses_from, rising, well_formed}
@@ -14,11 +16,19 @@ use Rattle.run.specs.Calls.{Call, decision, backtrack_by, decide_refusal, backtr
 use Rattle.layout.specs.Layout.{value_number, level_number, node_of, watch_literal, first_node, behind, head_number, link_number, watch_number, encode, level_before, held_trail, held_cells, chain_from, held_lists, held}
 use Rattle.validation.specs.Validation.{has_reason, is_justified, is_watching, is_guarded, watches_hold, is_fixpoint, is_conflict, is_listed, is_valid, passes, call_refusal, read_refusal}
 use Rattle.session.specs.Outcomes.{session_backtrack_refusal, backtrack_numbers, overwritten, figures_answer}
-use Rattle.session.specs.declared.Shown.TheVariants.{Of}
 use Rattle.script.specs.Script.{script_lines, numbered, back_of, line_of}
 use Rattle.script.specs.Answers.{bytes, signed, listed, call_words, implied_line, clause_line, back_line, refused_line, end_line}
 use Rattle.script.specs.Desk.{propagated_line, unless_refused, answer_to, step_of, answers_to, output_for, desk_output}
 use Rattle.run.specs.Ceiling.{checks_of, checks_since, count_at_latest, ceiling}
+
+-- an answer that refuses by a number of the table
+abbrev pub refuses : {A : Type 0} → ℕ → Result A Refusal
+refuses number = Err (refusal_of number)
+
+-- the numbers of the table
+abbrev refusal_numbers : List ℕ
+refusal_numbers =
+    1 ∷ 2 ∷ 3 ∷ 4 ∷ 5 ∷ 6 ∷ 8 ∷ 9 ∷ 10 ∷ 11 ∷ 12 ∷ 13 ∷ 14 ∷ 15 ∷ 16 ∷ 17 ∷ 18 ∷ 19 ∷ 20 ∷ 22 ∷ 23 ∷ 24 ∷ 25 ∷ 26 ∷ []
 
 -- n numbers from one on as text, each followed by a blank, and a 0; and as literals
 unfoldable pub counting : ℕ → ℕ → List ℕ
@@ -123,6 +133,8 @@ torn =
     }
 
 pub record MarkedPoints : Type 0 where
+  -- The refusal of each number of the table has that number.
+  pub refusals_numbered : map (λ (number : ℕ). number_of (refusal_of number)) refusal_numbers ≡ refusal_numbers
   -- 255 literals read, 256 give 6.
   pub literals_255 : read_text (long_text 255) ≡ accepted (long_formula 255)
   pub literals_256 : read_text (long_text 256) ≡ refused 6
@@ -175,7 +187,7 @@ pub record MarkedPoints : Type 0 where
   pub worn_taken : refusal listing (backtrack_by 1) (worn 999999) ≡ 0
   pub worn_refused : refusal listing (backtrack_by 1) (step listing (worn 999999) (backtrack_by 1)) ≡ 17
   pub worn_passes : passes listing worn_session ≡ true
-  pub worn_figures : figures_answer (numbers_of listing) worn_session ≡ Of 2 999999 4 0
+  pub worn_figures : figures_answer (numbers_of listing) worn_session ≡ Ok (record { decisions = 2; backtracks = 999999; trail = 4; conflict = 0 })
   pub worn_session_taken : session_backtrack_refusal (numbers_of listing) worn_session 1 ≡ 0
   pub worn_session_refused : session_backtrack_refusal (numbers_of listing) (backtrack_numbers (numbers_of listing) worn_session 1) 1 ≡ 17
   -- Not marked, and pinned by no theorem: the order of a watch list. A rule goes to the front of its watches' lists at the opening; a
@@ -200,9 +212,10 @@ pub record MarkedPoints : Type 0 where
   pub unhandled_open : refusal torn (decision (negative 2)) (reference torn (decision (negative 1) ∷ backtrack_by 1 ∷ [])) ≡ 0
 
 pub marked_points : MarkedPoints
-unfolding script_lines numbered back_of line_of signed listed call_words implied_line clause_line back_line refused_line end_line propagated_line unless_refused answer_to step_of answers_to output_for desk_output trail_behind sum any distinct times table up_to sound_clause sound starts numbers_of clauses_from rising well_formed value_number level_number node_of watch_literal first_node behind head_number link_number watch_number encode level_before held_trail held_cells chain_from held_lists held has_reason is_justified is_watching is_guarded watches_hold is_fixpoint is_conflict is_listed is_valid passes call_refusal read_refusal session_backtrack_refusal backtrack_numbers overwritten figures_answer all keep flat empty member same begins literal_within blank line_end extend split not_skipped lines_of filled words_of decimal is_digit unsigned unsigned_token negative_token token_of headed header_in header_of fault opened closed written not_number over_variables wrong_length surplus unfinished over_literals faults_at faults_from outside body_of faults_under faults_of before earlier least onto clauses_in formula_under formula_in both_ways as_read read_formula judged read_text digits opposite place literal_at is_true decisions level lowered cut watched next one_more scan_from scan push_front without firsts take_out add_checks other_watch moved scanned_action action on_trail with_watches with_conflict counted perform_action visit read_list propagate_from first_cell watch_all fresh assign_unit assign_units open_run decide backtrack decide_refusal backtrack_refusal refusal perform_call step step_all reference count_at_latest bytes counting positives reversed
+unfolding refusals first_with refusal_of script_lines numbered back_of line_of signed listed call_words implied_line clause_line back_line refused_line end_line propagated_line unless_refused answer_to step_of answers_to output_for desk_output trail_behind sum any distinct times table up_to sound_clause sound starts numbers_of clauses_from rising well_formed value_number level_number node_of watch_literal first_node behind head_number link_number watch_number encode level_before held_trail held_cells chain_from held_lists held has_reason is_justified is_watching is_guarded watches_hold is_fixpoint is_conflict is_listed is_valid passes call_refusal read_refusal session_backtrack_refusal backtrack_numbers overwritten figures_answer all keep flat empty member same begins literal_within blank line_end extend split not_skipped lines_of filled words_of decimal is_digit unsigned unsigned_token negative_token token_of headed header_in header_of fault opened closed written not_number over_variables wrong_length surplus unfinished over_literals faults_at faults_from outside body_of faults_under faults_of before earlier least onto clauses_in formula_under formula_in both_ways as_read read_formula judged read_text digits opposite place literal_at is_true decisions level lowered cut watched next one_more scan_from scan push_front without firsts take_out add_checks other_watch moved scanned_action action on_trail with_watches with_conflict counted perform_action visit read_list propagate_from first_cell watch_all fresh assign_unit assign_units open_run decide backtrack decide_refusal backtrack_refusal refusal perform_call step step_all reference count_at_latest bytes counting positives reversed
 marked_points =
     record {
+      refusals_numbered = refl;
       literals_255 = refl;
       literals_256 = refl;
       variables_500 = refl;
