@@ -20,23 +20,27 @@ use Rattle.run.proofs.ClosureLaws.{decisions_true}
 use Rattle.layout.specs.Layout.{held}
 use Rattle.validation.specs.Validation.{call_refusal, read_refusal}
 use Rattle.validation.proofs.ValidateLaws.{read_none}
-use Rattle.session.specs.Outcomes.{outcome, assigned_of, lookup_refusal, lookup_answer, open_refusal, replay_numbers}
+use Rattle.std.specs.Prelude.{Result, Ok, Err}
+use Rattle.refusals.specs.declared.Refusal.{Refusal}
+use Rattle.refusals.specs.declared.Refusal.TheVariants as refusal
+use Rattle.refusals.specs.Refusals.{refusals, first_with, refusal_of, outcome}
+use Rattle.session.specs.Outcomes.{assigned_of, lookup_refusal, lookup_answer, open_refusal, replay_numbers}
 use Rattle.session.specs.Statement.{Statement3}
 use Rattle.session.specs.declared.Assigned.{Assigned}
-use Rattle.session.specs.declared.Assigned.TheVariants.{Open, Positive, Negative, Refused}
+use Rattle.session.specs.declared.Assigned.TheVariants.{Open, Positive, Negative}
 use Rattle.session.proofs.AnswerLaws.{variable_refusal}
 use Rattle.session.proofs.PassedLaws.{well, facts, own_refusal}
 use Rattle.session.proofs.Statements.{statement_3}
 use Rattle.agreement.specs.Agreement.{unlevelled, SameDecisions, DecisionsTrue, Agreement}
 
 -- what a lookup says but for the level, by whether the number is a variable's and which of its literals are true
-abbrev said : Bool → Bool → Bool → Assigned
-said variable t f = cond variable (cond t (Positive 0) (cond f (Negative 0) Open)) (Refused 13)
+abbrev said : Bool → Bool → Bool → Result Assigned Refusal
+said variable t f = cond variable (cond t (Ok (Positive 0)) (cond f (Ok (Negative 0)) (Ok Open))) (Err refusal.NoVariable)
 
 lookup_says : (book session : List ℕ) → 0 ≡ read_refusal book session → (v : ℕ)
     → let trail = (held (formula_of book) session).trail in
     unlevelled (lookup_answer book session v) ≡ said (leb 1 v && leb v (variables_of book)) (is_true trail (positive v)) (is_true trail (negative v))
-unfolding unlevelled lookup_answer lookup_refusal
+unfolding unlevelled lookup_answer lookup_refusal refusal_of first_with refusals
 lookup_says book session none v =
     let run = held (formula_of book) session in
     rw (own_refusal book session none (variable_refusal book v))

@@ -1,21 +1,22 @@
 -- Request K14, two agents, one outcome: two sessions on one book, what it is to hold the same decisions, and what is then alike.
-use Rattle.std.specs.Prelude.{ℕ, ◌≡◌, true, false, List}
+use Rattle.std.specs.Prelude.{ℕ, ◌≡◌, true, false, List, Result, Ok, Err}
 use Rattle.base.specs.Lists.{member}
 use Rattle.book.specs.Numbers.{formula_of}
 use Rattle.run.specs.Trail.{is_true, decisions}
 use Rattle.run.specs.Run.{Run, in_conflict}
 use Rattle.run.specs.Closure.{Contains}
 use Rattle.layout.specs.Layout.{held}
+use Rattle.refusals.specs.declared.Refusal.{Refusal}
 use Rattle.session.specs.Outcomes.{lookup_answer}
 use Rattle.session.specs.declared.Assigned.{Assigned}
 use Rattle.session.specs.declared.Assigned.TheVariants as assigned
 
--- The answer to a lookup with its level left out, so that it says no more than open, positive (the paper's wanted), negative (barred) or refused by which number.
-unfoldable pub unlevelled : Assigned → Assigned
-unlevelled assigned.Open = assigned.Open
-unlevelled (assigned.Positive level) = assigned.Positive 0
-unlevelled (assigned.Negative level) = assigned.Negative 0
-unlevelled (assigned.Refused number) = assigned.Refused number
+-- The answer to a lookup with its level left out, so that it says no more than open, positive (the paper's wanted), negative (barred) or which refusal.
+unfoldable pub unlevelled : Result Assigned Refusal → Result Assigned Refusal
+unlevelled (Ok assigned.Open) = Ok assigned.Open
+unlevelled (Ok (assigned.Positive level)) = Ok (assigned.Positive 0)
+unlevelled (Ok (assigned.Negative level)) = Ok (assigned.Negative 0)
+unlevelled (Err refusal) = Err refusal
 
 -- Of two sessions on one book, by the runs that they hold:
 module _ (book a b : List ℕ) where

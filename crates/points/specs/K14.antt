@@ -1,6 +1,6 @@
 -- Points of request K14, evaluated: the same choices in other orders and after other take-backs, one settled already, and in contradiction; and which sentences
 -- they refute: that levels are alike, too, and lookups in contradiction.
-use Rattle.std.specs.Prelude.{ℕ, ◌≡◌, refl, Bool, true, false, ◌||◌, List, [], ◌∷◌, eqb}
+use Rattle.std.specs.Prelude.{ℕ, ◌≡◌, refl, Bool, true, false, ◌||◌, List, [], ◌∷◌, eqb, Result, Ok, Err}
 use Rattle.std.proofs.Common.{arith, sym, ap, ◌∙◌}
 use Rattle.base.specs.Lists.{all, any, keep, flat, member, distinct, same, times, table, up_to, without}
 use Rattle.book.specs.Formula.{Formula, positive, negative, literal_within, sound_clause, sound}
@@ -11,8 +11,12 @@ use Rattle.run.specs.Run.{Run, in_conflict, push_front, take_out, add_checks, ot
 use Rattle.run.specs.Calls.{Call, decision, backtrack_by, fix_by, decide_refusal, backtrack_refusal, fix_refusal, refusal, perform_call, step, step_all, reference}
 use Rattle.layout.specs.Layout.{value_number, level_number, node_of, watch_literal, first_node, behind, head_number, link_number, watch_number, encode, level_before, held_trail, held_cells, chain_from, held_lists, held}
 use Rattle.validation.specs.Validation.{has_reason, is_justified, is_watching, is_guarded, watches_hold, is_fixpoint, is_conflict, is_listed, is_valid, passes, call_refusal, read_refusal}
+use Rattle.refusals.specs.declared.Refusal.{Refusal}
+use Rattle.refusals.specs.declared.Refusal.TheVariants.{NoVariable}
+use Rattle.refusals.specs.Refusals.{refusals, first_with, refusal_of}
+use Rattle.session.specs.declared.Assigned.{Assigned}
 use Rattle.session.specs.Outcomes.{lookup_refusal, lookup_answer}
-use Rattle.session.specs.declared.Assigned.TheVariants.{Open, Positive, Negative, Refused}
+use Rattle.session.specs.declared.Assigned.TheVariants.{Open, Positive, Negative}
 use Rattle.agreement.specs.Agreement.{unlevelled, SameDecisions}
 use Rattle.points.specs.K5.{shown}
 
@@ -70,37 +74,37 @@ pub record Points : Type 0 where
   -- Neither is in contradiction, and the features are settled alike, at other levels.
   pub one_quiet : in_conflict (held_run implying one_agent) ≡ false
   pub other_quiet : in_conflict (held_run implying other_agent) ≡ false
-  pub one_1 : shown implying one_agent 1 ≡ Positive 1
-  pub one_2 : shown implying one_agent 2 ≡ Positive 2
-  pub one_3 : shown implying one_agent 3 ≡ Positive 1
-  pub other_1 : shown implying other_agent 1 ≡ Positive 2
-  pub other_2 : shown implying other_agent 2 ≡ Positive 1
-  pub other_3 : shown implying other_agent 3 ≡ Positive 2
-  pub one_unlevelled : unlevelled (shown implying one_agent 3) ≡ Positive 0
-  pub other_unlevelled : unlevelled (shown implying other_agent 3) ≡ Positive 0
-  pub one_refused : unlevelled (shown implying one_agent 4) ≡ Refused 13
-  pub other_refused : unlevelled (shown implying other_agent 4) ≡ Refused 13
+  pub one_1 : shown implying one_agent 1 ≡ Ok (Positive 1)
+  pub one_2 : shown implying one_agent 2 ≡ Ok (Positive 2)
+  pub one_3 : shown implying one_agent 3 ≡ Ok (Positive 1)
+  pub other_1 : shown implying other_agent 1 ≡ Ok (Positive 2)
+  pub other_2 : shown implying other_agent 2 ≡ Ok (Positive 1)
+  pub other_3 : shown implying other_agent 3 ≡ Ok (Positive 2)
+  pub one_unlevelled : unlevelled (shown implying one_agent 3) ≡ Ok (Positive 0)
+  pub other_unlevelled : unlevelled (shown implying other_agent 3) ≡ Ok (Positive 0)
+  pub one_refused : unlevelled (shown implying one_agent 4) ≡ Err NoVariable
+  pub other_refused : unlevelled (shown implying other_agent 4) ≡ Err NoVariable
   -- A choice that is settled already is refused, and so is not in force; the outcome is that of both choices.
   pub assigned : refusal implying (decision (positive 3)) (reference implying (decision (positive 1) ∷ [])) ≡ 15
   pub assigned_decisions : decisions (reference implying assigned_already).trail ≡ positive 1 ∷ []
   pub both_decisions : decisions (reference implying both_in_force).trail ≡ positive 1 ∷ positive 3 ∷ []
-  pub assigned_1 : shown implying assigned_already 1 ≡ Positive 1
-  pub assigned_2 : shown implying assigned_already 2 ≡ Open
-  pub assigned_3 : shown implying assigned_already 3 ≡ Positive 1
-  pub both_1 : shown implying both_in_force 1 ≡ Positive 2
-  pub both_2 : shown implying both_in_force 2 ≡ Open
-  pub both_3 : shown implying both_in_force 3 ≡ Positive 1
+  pub assigned_1 : shown implying assigned_already 1 ≡ Ok (Positive 1)
+  pub assigned_2 : shown implying assigned_already 2 ≡ Ok Open
+  pub assigned_3 : shown implying assigned_already 3 ≡ Ok (Positive 1)
+  pub both_1 : shown implying both_in_force 1 ≡ Ok (Positive 2)
+  pub both_2 : shown implying both_in_force 2 ≡ Ok Open
+  pub both_3 : shown implying both_in_force 3 ≡ Ok (Positive 1)
   -- In contradiction the rules that are named, and what lookups say, may differ with the order.
   pub one_contradicts : read_refusal (numbers_of opposing) (session opposing one_agent) ≡ 0
   pub other_contradicts : read_refusal (numbers_of opposing) (session opposing other_order) ≡ 0
   pub contradicting_decisions : SameDecisions (numbers_of opposing) (session opposing one_agent) (session opposing other_order)
   pub one_conflict : (held_run opposing one_agent).conflict ≡ 2
   pub other_conflict : (held_run opposing other_order).conflict ≡ 1
-  pub one_in_conflict : shown opposing one_agent 3 ≡ Positive 2
-  pub other_in_conflict : shown opposing other_order 3 ≡ Negative 2
+  pub one_in_conflict : shown opposing one_agent 3 ≡ Ok (Positive 2)
+  pub other_in_conflict : shown opposing other_order 3 ≡ Ok (Negative 2)
 
 pub points : Points
-unfolding unlevelled lookup_refusal lookup_answer any distinct times table up_to sound_clause sound starts numbers_of clauses_from rising well_formed value_number level_number node_of watch_literal first_node behind head_number link_number watch_number encode level_before held_trail held_cells chain_from held_lists held has_reason is_justified is_watching is_guarded watches_hold is_fixpoint is_conflict is_listed is_valid passes call_refusal read_refusal all flat member same literal_within opposite place literal_at is_true decisions level lowered cut watched next one_more scan_from scan push_front without take_out add_checks other_watch moved scanned_action action on_trail with_watches with_conflict counted perform_action visit read_list propagate_from first_cell watch_all fresh assign_unit assign_units open_run decide backtrack fix decide_refusal backtrack_refusal fix_refusal refusal perform_call step step_all reference keep
+unfolding refusal_of first_with refusals unlevelled lookup_refusal lookup_answer any distinct times table up_to sound_clause sound starts numbers_of clauses_from rising well_formed value_number level_number node_of watch_literal first_node behind head_number link_number watch_number encode level_before held_trail held_cells chain_from held_lists held has_reason is_justified is_watching is_guarded watches_hold is_fixpoint is_conflict is_listed is_valid passes call_refusal read_refusal all flat member same literal_within opposite place literal_at is_true decisions level lowered cut watched next one_more scan_from scan push_front without take_out add_checks other_watch moved scanned_action action on_trail with_watches with_conflict counted perform_action visit read_list propagate_from first_cell watch_all fresh assign_unit assign_units open_run decide backtrack fix decide_refusal backtrack_refusal fix_refusal refusal perform_call step step_all reference keep
 points =
     record {
       one_passes = refl;
@@ -148,7 +152,7 @@ Claim Claimed = (book a b : List ℕ) → read_refusal book a ≡ 0 → read_ref
 
 -- It is false that out of conflict positive variables have the same level,
 pub levels_refuted : Claim (λ book a b. in_conflict (held (formula_of book) a) ≡ false
-    → (v m n : ℕ) → lookup_answer book a v ≡ Positive m → lookup_answer book b v ≡ Positive n → m ≡ n) → ⊥
+    → (v m n : ℕ) → lookup_answer book a v ≡ Ok (Positive m) → lookup_answer book b v ≡ Ok (Positive n) → m ≡ n) → ⊥
 levels_refuted claim =
     let alike = claim (numbers_of implying) (session implying one_agent) (session implying other_agent) points.one_passes points.other_passes points.same_decisions in
     let levels : ◌≡◌ {A = ℕ} 1 2 = alike points.one_quiet 1 1 2 points.one_1 points.other_1 in
@@ -161,5 +165,5 @@ unfolding unlevelled
 conflict_refuted claim =
     let alike = claim (numbers_of opposing) (session opposing one_agent) (session opposing other_order) points.one_contradicts points.other_contradicts points.contradicting_decisions in
     let both-in : in_conflict (held_run opposing one_agent) ≡ in_conflict (held_run opposing other_order) = rw (points.one_conflict, points.other_conflict) in
-    let signs : Positive 0 ≡ Negative 0 = sym (ap unlevelled points.one_in_conflict) ∙ alike both-in 3 ∙ ap unlevelled points.other_in_conflict in
+    let signs : ◌≡◌ {A = Result Assigned Refusal} (Ok (Positive 0)) (Ok (Negative 0)) = sym (ap unlevelled points.one_in_conflict) ∙ alike both-in 3 ∙ ap unlevelled points.other_in_conflict in
     let z : ◌≡◌ {A = ℕ} 0 1 = cc in absurd (omega arith)

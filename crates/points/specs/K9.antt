@@ -1,5 +1,5 @@
 -- Points of request K9, evaluated: what the checker reports, the factor of an age, worked premiums by age, and the order of the refusals.
-use Rattle.std.specs.Prelude.{ℕ, zero, suc, ◌≡◌, refl, List, [], ◌∷◌, ◌++◌, ℤ, pos, set, Ok, Err}
+use Rattle.std.specs.Prelude.{ℕ, zero, suc, ◌≡◌, refl, List, [], ◌∷◌, ◌++◌, ℤ, pos, set, Result, Ok, Err}
 use Rattle.base.specs.Lists.{all, any, keep, flat, by_three, all_threes, member, distinct, same, times, table, up_to, without}
 use Rattle.book.specs.Formula.{literal_within, sound_clause, sound}
 use Rattle.book.specs.Numbers.{starts, numbers_of, clauses_from, rising, well_formed}
@@ -11,14 +11,14 @@ use Rattle.layout.specs.Layout.{length_at, value_number, level_number, node_of, 
 use Rattle.validation.specs.Validation.{has_reason, is_justified, is_watching, is_guarded, watches_hold, is_fixpoint, is_conflict, is_listed, is_valid, passes, call_refusal}
 use Rattle.bands.specs.Bands.{bands_of, are_bands, band_within, table_within, lies_in, bands_at, at_fault, fault_at, checked_table, factor_at, refused_by, factor_answer}
 use Rattle.bands.specs.declared.TableFault.TheVariants.{Malformed, Gap, Overlap}
-use Rattle.refusals.specs.Refusals.{number_of}
-use Rattle.refusals.specs.declared.Refusal.TheVariants.{PriceInput}
+use Rattle.refusals.specs.Refusals.{number_of, refusals, first_with, refusal_of}
+use Rattle.refusals.specs.declared.Refusal.{Refusal}
+use Rattle.refusals.specs.declared.Refusal.TheVariants.{Book, Session, InConflict, PriceInput, RunningAmount, AgeGap, AgeOverlap}
 use Rattle.rating.specs.Pricing.{literal_of, change_of, lines_of, is_kind, are_lines, change_within, line_within, list_within, base_within, rounded, applied, limited, stepped, priced_by, open_lines, price_refusal}
 use Rattle.rating.specs.Ages.{scaled, age_answer}
 use Rattle.rating.specs.declared.Premium.{Premium}
-use Rattle.rating.specs.declared.Premium.TheVariants.{Of, Refused}
 use Rattle.points.specs.Points.{opposed}
-use Rattle.points.specs.K1.{book, begun, assigned, minus, amount, part, several}
+use Rattle.points.specs.K1.{book, begun, assigned, minus, amount, part, several, premium}
 
 -- a band, one for each of the ages below n, and four that are good
 abbrev band : ℕ → ℕ → ℕ → List ℕ
@@ -32,7 +32,7 @@ abbrev four : List ℕ
 four = band 65 120 1325 ++ (band 25 64 1000 ++ (band 0 17 2500 ++ band 18 24 1750))
 
 -- the listing's session of K1, all of whose features are settled, priced by age
-abbrev priced : ℕ → List ℕ → ℕ → List ℤ → Premium
+abbrev priced : ℕ → List ℕ → ℕ → List ℤ → Result Premium Refusal
 priced base bands age numbers = age_answer book assigned (pos base) bands age numbers
 
 pub record Points : Type 0 where
@@ -79,39 +79,39 @@ pub record Points : Type 0 where
   pub most_bands_alike : checked_table (several 64 (band 0 120 1000)) ≡ Err (Overlap 0)
   pub bands_alike_over : checked_table (several 65 (band 0 120 1000)) ≡ Err Malformed
   -- The base scaled: by the four bands, halves up, the largest one, nothing left of it.
-  pub at_0 : priced 12345 four 0 [] ≡ Of (pos 30863) 0
-  pub at_17 : priced 12345 four 17 [] ≡ Of (pos 30863) 0
-  pub at_18 : priced 12345 four 18 [] ≡ Of (pos 21604) 0
-  pub at_24 : priced 12345 four 24 [] ≡ Of (pos 21604) 0
-  pub at_25 : priced 12345 four 25 [] ≡ Of (pos 12345) 0
-  pub at_64 : priced 12345 four 64 [] ≡ Of (pos 12345) 0
-  pub at_65 : priced 12345 four 65 [] ≡ Of (pos 16357) 0
-  pub at_120 : priced 12345 four 120 [] ≡ Of (pos 16357) 0
-  pub at_121 : priced 12345 four 121 [] ≡ Refused 19
+  pub at_0 : priced 12345 four 0 [] ≡ Ok (premium (pos 30863) 0)
+  pub at_17 : priced 12345 four 17 [] ≡ Ok (premium (pos 30863) 0)
+  pub at_18 : priced 12345 four 18 [] ≡ Ok (premium (pos 21604) 0)
+  pub at_24 : priced 12345 four 24 [] ≡ Ok (premium (pos 21604) 0)
+  pub at_25 : priced 12345 four 25 [] ≡ Ok (premium (pos 12345) 0)
+  pub at_64 : priced 12345 four 64 [] ≡ Ok (premium (pos 12345) 0)
+  pub at_65 : priced 12345 four 65 [] ≡ Ok (premium (pos 16357) 0)
+  pub at_120 : priced 12345 four 120 [] ≡ Ok (premium (pos 16357) 0)
+  pub at_121 : priced 12345 four 121 [] ≡ Err PriceInput
   pub half : scaled (pos 1) 500 ≡ pos 1
   pub below_half : scaled (pos 1) 499 ≡ pos 0
   pub second_half : scaled (pos 3) 1500 ≡ pos 5
-  pub largest : priced 1000000000 (band 0 120 5000) 0 [] ≡ Of (pos 5000000000) 0
-  pub nothing_left : priced 1000000000 (band 0 120 0) 0 [] ≡ Of (pos 0) 0
-  pub before_the_lines : priced 12345 four 30 (amount 3 (pos 100) ++ part 3 (pos 500)) ≡ Of (pos 18668) 0
-  pub scaled_before_the_lines : priced 12345 four 70 (amount 3 (pos 100) ++ part 3 (pos 500)) ≡ Of (pos 24686) 0
-  pub open_line : age_answer book begun (pos 12345) four 70 (amount 6 (pos 100)) ≡ Of (pos 16357) 1
-  pub seven_doublings : priced 1000000000 (band 0 120 5000) 0 (several 7 (part 3 (pos 1000))) ≡ Of (pos 640000000000) 0
-  pub eight_doublings : priced 1000000000 (band 0 120 5000) 0 (several 8 (part 3 (pos 1000))) ≡ Refused 20
+  pub largest : priced 1000000000 (band 0 120 5000) 0 [] ≡ Ok (premium (pos 5000000000) 0)
+  pub nothing_left : priced 1000000000 (band 0 120 0) 0 [] ≡ Ok (premium (pos 0) 0)
+  pub before_the_lines : priced 12345 four 30 (amount 3 (pos 100) ++ part 3 (pos 500)) ≡ Ok (premium (pos 18668) 0)
+  pub scaled_before_the_lines : priced 12345 four 70 (amount 3 (pos 100) ++ part 3 (pos 500)) ≡ Ok (premium (pos 24686) 0)
+  pub open_line : age_answer book begun (pos 12345) four 70 (amount 6 (pos 100)) ≡ Ok (premium (pos 16357) 1)
+  pub seven_doublings : priced 1000000000 (band 0 120 5000) 0 (several 7 (part 3 (pos 1000))) ≡ Ok (premium (pos 640000000000) 0)
+  pub eight_doublings : priced 1000000000 (band 0 120 5000) 0 (several 8 (part 3 (pos 1000))) ≡ Err RunningAmount
   -- The order: 11, 12, 14, 19, then 25 or 26 at every age, then 20.
-  pub book_first : age_answer (set book 0 0) (set assigned length_at 9) (minus 1) [] 121 [] ≡ Refused 11
-  pub session_second : age_answer book (set assigned length_at 9) (minus 1) [] 121 [] ≡ Refused 12
-  pub conflict_third : age_answer (numbers_of opposed) (encode opposed (open_run opposed)) (minus 1) [] 121 [] ≡ Refused 14
-  pub base_before_fault : age_answer book assigned (minus 1) [] 30 [] ≡ Refused 19
-  pub line_before_fault : priced 12345 [] 30 (amount 10 (pos 1)) ≡ Refused 19
-  pub age_before_fault : priced 12345 [] 121 [] ≡ Refused 19
-  pub false_table : priced 12345 (band 0 120 5001) 30 [] ≡ Refused 19
-  pub fault_elsewhere : priced 12345 (band 0 99 1000 ++ band 101 120 1000) 30 [] ≡ Refused 25
-  pub several_elsewhere : priced 12345 (band 0 100 1000 ++ band 100 120 1000) 30 [] ≡ Refused 26
-  pub fault_before_limit : priced 12345 (band 0 99 1000 ++ band 101 120 1000) 30 (several 100 (part 3 (pos 1000))) ≡ Refused 25
+  pub book_first : age_answer (set book 0 0) (set assigned length_at 9) (minus 1) [] 121 [] ≡ Err Book
+  pub session_second : age_answer book (set assigned length_at 9) (minus 1) [] 121 [] ≡ Err Session
+  pub conflict_third : age_answer (numbers_of opposed) (encode opposed (open_run opposed)) (minus 1) [] 121 [] ≡ Err InConflict
+  pub base_before_fault : age_answer book assigned (minus 1) [] 30 [] ≡ Err PriceInput
+  pub line_before_fault : priced 12345 [] 30 (amount 10 (pos 1)) ≡ Err PriceInput
+  pub age_before_fault : priced 12345 [] 121 [] ≡ Err PriceInput
+  pub false_table : priced 12345 (band 0 120 5001) 30 [] ≡ Err PriceInput
+  pub fault_elsewhere : priced 12345 (band 0 99 1000 ++ band 101 120 1000) 30 [] ≡ Err AgeGap
+  pub several_elsewhere : priced 12345 (band 0 100 1000 ++ band 100 120 1000) 30 [] ≡ Err AgeOverlap
+  pub fault_before_limit : priced 12345 (band 0 99 1000 ++ band 101 120 1000) 30 (several 100 (part 3 (pos 1000))) ≡ Err AgeGap
 
 pub points : Points
-unfolding several singles scaled age_answer bands_of are_bands band_within table_within lies_in bands_at at_fault fault_at checked_table factor_at factor_answer by_three all_threes literal_of change_of lines_of is_kind are_lines change_within line_within list_within base_within rounded applied limited stepped priced_by open_lines price_refusal any distinct times table up_to sound_clause sound starts numbers_of clauses_from rising well_formed value_number level_number node_of watch_literal first_node behind head_number link_number watch_number encode level_before held_trail held_cells chain_from held_lists held has_reason is_justified is_watching is_guarded watches_hold is_fixpoint is_conflict is_listed is_valid passes call_refusal all flat member same literal_within opposite place literal_at is_true decisions level lowered cut watched next one_more scan_from scan push_front without take_out add_checks other_watch moved scanned_action with_conflict action on_trail with_watches counted perform_action visit read_list propagate_from first_cell watch_all fresh assign_unit assign_units open_run decide decide_refusal refusal perform_call step step_all reference keep
+unfolding refusal_of first_with refusals several singles scaled age_answer bands_of are_bands band_within table_within lies_in bands_at at_fault fault_at checked_table factor_at factor_answer by_three all_threes literal_of change_of lines_of is_kind are_lines change_within line_within list_within base_within rounded applied limited stepped priced_by open_lines price_refusal any distinct times table up_to sound_clause sound starts numbers_of clauses_from rising well_formed value_number level_number node_of watch_literal first_node behind head_number link_number watch_number encode level_before held_trail held_cells chain_from held_lists held has_reason is_justified is_watching is_guarded watches_hold is_fixpoint is_conflict is_listed is_valid passes call_refusal all flat member same literal_within opposite place literal_at is_true decisions level lowered cut watched next one_more scan_from scan push_front without take_out add_checks other_watch moved scanned_action with_conflict action on_trail with_watches counted perform_action visit read_list propagate_from first_cell watch_all fresh assign_unit assign_units open_run decide decide_refusal refusal perform_call step step_all reference keep
 points =
     record {
       malformed_is_19 = refl;

@@ -2,7 +2,7 @@
 use Prim.Native.Nat.{ℕ, ◌*◌, ◌≤◌}
 use mathlib.Core.Bool.{true}
 use mathlib.Core.List.{List}
-use mathlib.Core.Path.{◌≡◌}
+use mathlib.Core.Path.{◌≡◌, sym}
 use native.Mathlib.Omega.{arith}
 use borrow.Author.Tests.{ne_eqb}
 use lib.IntN.{ℤ, pos, nat_abs, ◌*ℤ◌}
@@ -11,13 +11,14 @@ use mir.Val.{to_z}
 use mir.ValLaws.{to_z-of_z}
 use Rattle.base.proofs.Signed.{product_within, small_fits}
 use Rattle.bands.specs.Bands.{max_factor, factor_answer}
-use Rattle.bands.specs.declared.Factor.{Factor}
 use Rattle.book.specs.Numbers.{formula_of}
 use Rattle.layout.specs.Layout.{held}
-use Rattle.session.specs.Outcomes.{accepted}
+use Rattle.std.specs.Prelude.{Result, Ok, Err}
+use Rattle.refusals.specs.declared.Refusal.{Refusal}
+use Rattle.refusals.specs.Refusals.{checked}
+use Rattle.refusals.proofs.OutcomeLaws.{outcome_refused}
 use Rattle.rating.specs.Pricing.{max_base, max_running, base_within, lines_of, price_refusal}
 use Rattle.rating.specs.Ages.{scaled, age_premium, age_answer}
-use Rattle.rating.specs.declared.Premium.TheVariants.{Refused}
 use Rattle.rating.proofs.PricingLaws.{rounded_size}
 use Rattle.rating.proofs.AnswerLaws.{base_most}
 
@@ -36,11 +37,13 @@ module _ (base : ℤ) (factor : ℕ) (within : base_within base ≡ true) (h : f
 
 -- the answer, refused before the table is looked at, or by what the table answers
 module _ (book session : List ℕ) (base : ℤ) (table : List ℕ) (age : ℕ) (numbers : List ℤ) where
-  pub age_refused : (n : ℕ) → n ≡ price_refusal book session base numbers → (n ≡ 0 → ⊥) → Refused n ≡ age_answer book session base table age numbers
+  pub age_refused : (r : Refusal) → Err r ≡ checked (price_refusal book session base numbers) → Err r ≡ age_answer book session base table age numbers
   unfolding age_answer
-  age_refused n e h = rw (← e, ne_eqb n 0 h)
+  age_refused r e =
+      let refused = outcome_refused _ _ r (sym e) in
+      rw (ne_eqb (price_refusal book session base numbers) 0 refused.0, refused.1)
 
-  pub age_answered : 0 ≡ price_refusal book session base numbers → (answer : Factor) → answer ≡ factor_answer table age
-      → age_premium base (lines_of numbers) answer (accepted (held (formula_of book) session)) ≡ age_answer book session base table age numbers
+  pub age_answered : 0 ≡ price_refusal book session base numbers → (answer : Result ℕ Refusal) → answer ≡ factor_answer table age
+      → age_premium base (lines_of numbers) answer (Ok (held (formula_of book) session)) ≡ age_answer book session base table age numbers
   unfolding age_answer
   age_answered e answer is = rw (← e, is)

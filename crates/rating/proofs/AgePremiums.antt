@@ -13,10 +13,12 @@ use Rattle.base.proofs.Bools.{both, and_parts}
 use Rattle.bands.specs.Bands.{max_age, bands_of, are_bands, band_within, table_within, lies_in, bands_at, at_fault, checked_table, factor_at, factor_by, factor_answer}
 use Rattle.bands.specs.Statement.{GoodTable, LowestFault}
 use Rattle.bands.specs.declared.Band.{Band}
-use Rattle.bands.specs.declared.Checked.{Checked}
-use Rattle.bands.specs.declared.Checked.TheVariants.{Good, Malformed, Fault}
-use Rattle.bands.specs.declared.Factor.{Factor}
-use Rattle.bands.specs.declared.Factor.TheVariants as factor
+use Rattle.bands.specs.declared.TableFault.{TableFault}
+use Rattle.bands.specs.declared.TableFault.TheVariants.{Malformed, Gap, Overlap}
+use Rattle.std.specs.Prelude.{Result, Ok, Err, Some, ⊤}
+use Rattle.refusals.specs.declared.Refusal.{Refusal}
+use Rattle.refusals.specs.declared.Refusal.TheVariants as refusal
+use Rattle.refusals.specs.Refusals.{number_of, refusals, first_with, refusal_of, outcome}
 use Rattle.bands.proofs.Checker.{in_range, good_exactly, fault_exactly, malformed_exactly}
 use Rattle.bands.proofs.Factors.{factor_told, factor_most, own_factor, any_order_factor}
 use Rattle.bands.proofs.TableLaws.{outside, factor_by_lem}
@@ -26,37 +28,26 @@ use Rattle.run.specs.Run.{Run, in_conflict}
 use Rattle.run.specs.Closure.{Closure}
 use Rattle.layout.specs.Layout.{held}
 use Rattle.validation.specs.Validation.{passes, call_refusal, read_refusal}
-use Rattle.session.specs.Outcomes.{accepted, refused, outcome}
 use Rattle.rating.specs.Pricing.{lines_of, base_within, rounded, priced_by, open_lines, offered, premium_of, rates_within, run_refusal, price_refusal, premium_answer}
 use Rattle.rating.specs.Ages.{scaled, age_premium, age_answer}
 use Rattle.rating.specs.Statement.{Nearest, GoesBeyond, Passes, Bounded}
 use Rattle.rating.specs.AgeStatement.{neutral, age_base, all_within, AgeRefusedWhere}
 use Rattle.rating.specs.declared.Premium.{Premium}
-use Rattle.rating.specs.declared.Premium.TheVariants.{Of, Refused}
-use Rattle.rating.specs.declared.Priced.TheVariants.{At}
 use Rattle.rating.proofs.AnswerLaws.{accepted_price, offered_of}
 use Rattle.rating.proofs.AgeLaws.{scaled_small, age_answered}
 use Rattle.rating.proofs.Premiums.{bounded_from, offered_by_closure, same_offered, same_refusal}
-use Rattle.rating.proofs.Refusals.{said, said_19, said_late, said_other, refused_early, offered_number, offered_20}
+use Rattle.rating.proofs.Refusals.{number, sole, said, said_19, said_late, said_other, refused_early, offered_number, offered_20}
 use Rattle.rating.proofs.Rounding.{rounded_nearest}
-
--- The numbers of a table's refusal where all is within its range: 25 or 26, by the lowest age at fault.
-fault_number_lem : (table : List ℕ) (number lowest : ℕ) → checked_table table ≡ Fault number lowest → (number ≡ 25) ⊎ (number ≡ 26)
-fault_number_lem table number lowest e = go ((fault_exactly table number lowest).0 e).fault
-  where
-    go : {a b : Type 0} → ((number ≡ 25) × a) ⊎ ((number ≡ 26) × b) → (number ≡ 25) ⊎ (number ≡ 26)
-    go (inl k) = inl k.0
-    go (inr k) = inr k.0
 
 module _ (book session : List ℕ) (base : ℤ) (table : List ℕ) (age : ℕ) (numbers : List ℤ) where
   abbrev run : Run
   run = held (formula_of book) session
 
   -- what is left where base, list, age and table are within their ranges, by the report on the table
-  abbrev by : Checked → Premium
-  by report = age_premium base (lines_of numbers) (factor_by age (bands_of table) report) (accepted run)
+  abbrev by : Result ⊤ TableFault → Result Premium Refusal
+  by report = age_premium base (lines_of numbers) (factor_by age (bands_of table) report) (Ok run)
 
-  abbrev rest : Premium
+  abbrev rest : Result Premium Refusal
   rest = by (checked_table table)
 
   abbrev within : Bool
@@ -64,12 +55,12 @@ module _ (book session : List ℕ) (base : ℤ) (table : List ℕ) (age : ℕ) (
 
   age_said : age_answer book session base table age numbers
       ≡ said (well_formed book) (passes (formula_of book) session) (in_conflict run) within rest
-  unfolding age_answer price_refusal call_refusal factor_answer
+  unfolding age_answer price_refusal call_refusal factor_answer refusal_of first_with refusals
   age_said = go (well_formed book) (passes (formula_of book) session) (in_conflict run) (rates_within book base numbers) (leb age max_age) (table_within table) refl
     where
       go : (w p c r a t : Bool) → table_within table ≡ t →
-          let refusal : ℕ = cond w (cond p (cond c 14 (cond r 0 19)) 12) 11 in
-          age_premium base (lines_of numbers) (cond a (factor_by age (bands_of table) (checked_table table)) (factor.Refused 19)) (outcome refusal run) ≡ said w p c (r && (a && t)) rest
+          let early : ℕ = cond w (cond p (cond c 14 (cond r 0 19)) 12) 11 in
+          age_premium base (lines_of numbers) (cond a (factor_by age (bands_of table) (checked_table table)) (Err refusal.PriceInput)) (outcome early run) ≡ said w p c (r && (a && t)) rest
       go false p c r a t e = refl
       go true false c r a t e = refl
       go true true true r a t e = refl
@@ -86,54 +77,74 @@ module _ (book session : List ℕ) (base : ℤ) (table : List ℕ) (age : ℕ) (
       (parts.0, leb-true age max_age inner.0, inner.1)
 
   -- what is left is refused by the fault of the table, or by 20
-  left : (report : Checked) → checked_table table ≡ report → table_within table ≡ true → (m : ℕ) → by report ≡ Refused m
-      → ((m ≡ 20) × (checked_table table ≡ Good)) ⊎ (((m ≡ 25) ⊎ (m ≡ 26)) × ((lowest : ℕ) × (checked_table table ≡ Fault m lowest)))
-  left Good e is_Within m q =
-      inl (offered_number (open_lines (is_true run.trail) (lines_of numbers)) (priced_by (is_true run.trail) (At (age_base base table age)) (lines_of numbers)) m q, e)
-  left Malformed e is_Within m q = absurd ((malformed_exactly table).0 e ((in_range table).0 is_Within))
-  left (Fault number lowest) e is_Within m q =
-      let same : number ≡ m = cc in
-      let told : checked_table table ≡ Fault m lowest = e ∙ ap (λ (n : ℕ). Fault n lowest) same in
-      inr (fault_number_lem table m lowest told, (lowest, told))
+  abbrev Left : Refusal → Type 0
+  Left m =
+      ((m ≡ refusal.RunningAmount) × (checked_table table ≡ Ok tt))
+      ⊎ ((m ≡ refusal.AgeGap) × ((lowest : ℕ) × (checked_table table ≡ Err (Gap lowest))))
+      ⊎ ((m ≡ refusal.AgeOverlap) × ((lowest : ℕ) × (checked_table table ≡ Err (Overlap lowest))))
 
-  late : within ≡ true → (m : ℕ) → rest ≡ Refused m → 19 < m
+  left : (report : Result ⊤ TableFault) → checked_table table ≡ report → table_within table ≡ true → (m : Refusal) → by report ≡ Err m → Left m
+  left (Ok good) e is_within m q =
+      inl (offered_number (open_lines (is_true run.trail) (lines_of numbers)) (priced_by (is_true run.trail) (Some (age_base base table age)) (lines_of numbers)) m q, e)
+  left (Err Malformed) e is_within m q = absurd ((malformed_exactly table).0 e ((in_range table).0 is_within))
+  left (Err (Gap lowest)) e is_within m q = inr (inl (cc, (lowest, e)))
+  left (Err (Overlap lowest)) e is_within m q = inr (inr (cc, (lowest, e)))
+
+  late : within ≡ true → (m : Refusal) → rest ≡ Err m → 19 < number_of m
   late r m q = go (left (checked_table table) refl (ranges r).2 m q)
     where
-      go : {a b : Type 0} → ((m ≡ 20) × a) ⊎ (((m ≡ 25) ⊎ (m ≡ 26)) × b) → 19 < m
-      go (inl k) = omega (arith, k.0)
-      go (inr (inl k, b)) = omega (arith, k)
-      go (inr (inr k, b)) = omega (arith, k)
+      go : Left m → 19 < number_of m
+      go (inl k) = omega (arith, number k.0)
+      go (inr (inl k)) = omega (arith, number k.0)
+      go (inr (inr k)) = omega (arith, number k.0)
 
-  fault_where : (m : ℕ) → 20 < m → (age_answer book session base table age numbers ≡ Refused m)
-      ↔ (Passes book session × (in_conflict run ≡ false) × (within ≡ true) × ((lowest : ℕ) × LowestFault table m lowest))
-  fault_where m h =
-      let exactly = said_late (well_formed book) (passes (formula_of book) session) (in_conflict run) within rest late m (omega arith) in (
-        λ e. let k = exactly.0 (sym age_said ∙ e) in (k.0, k.1, k.2, go (left (checked_table table) refl (ranges k.2).2 m k.3)),
-        λ k. age_said ∙ exactly.1 (k.0, k.1, k.2, ap by ((fault_exactly table m k.3.0).1 k.3.1)),
+  -- What a refusal by the table is due to: 25, 26.
+  abbrev FaultWhere : Refusal → ℕ → Type 0
+  FaultWhere m number = (age_answer book session base table age numbers ≡ Err m)
+      ↔ (Passes book session × (in_conflict run ≡ false) × (within ≡ true) × ((lowest : ℕ) × LowestFault table number lowest))
+
+  gap_where : FaultWhere refusal.AgeGap 25
+  gap_where =
+      let exactly = said_late (well_formed book) (passes (formula_of book) session) (in_conflict run) within rest late refusal.AgeGap (lit< tt) in (
+        λ e. let k = exactly.0 (sym age_said ∙ e) in (k.0, k.1, k.2, go (left (checked_table table) refl (ranges k.2).2 refusal.AgeGap k.3)),
+        λ k. age_said ∙ exactly.1 (k.0, k.1, k.2, ap by ((fault_exactly table k.3.0).0.1 k.3.1)),
       )
     where
-      go : {a b : Type 0} → ((m ≡ 20) × a) ⊎ (b × ((lowest : ℕ) × (checked_table table ≡ Fault m lowest))) → (lowest : ℕ) × LowestFault table m lowest
-      go (inl k) = absurd (omega (arith, k.0))
-      go (inr k) = (k.1.0, (fault_exactly table m k.1.0).0 k.1.1)
+      go : Left refusal.AgeGap → (lowest : ℕ) × LowestFault table 25 lowest
+      go (inl k) = absurd (omega (arith, number k.0))
+      go (inr (inl k)) = (k.1.0, (fault_exactly table k.1.0).0.0 k.1.1)
+      go (inr (inr k)) = absurd (omega (arith, number k.0))
 
-  limit_where : (age_answer book session base table age numbers ≡ Refused 20)
+  overlap_where : FaultWhere refusal.AgeOverlap 26
+  overlap_where =
+      let exactly = said_late (well_formed book) (passes (formula_of book) session) (in_conflict run) within rest late refusal.AgeOverlap (lit< tt) in (
+        λ e. let k = exactly.0 (sym age_said ∙ e) in (k.0, k.1, k.2, go (left (checked_table table) refl (ranges k.2).2 refusal.AgeOverlap k.3)),
+        λ k. age_said ∙ exactly.1 (k.0, k.1, k.2, ap by ((fault_exactly table k.3.0).1.1 k.3.1)),
+      )
+    where
+      go : Left refusal.AgeOverlap → (lowest : ℕ) × LowestFault table 26 lowest
+      go (inl k) = absurd (omega (arith, number k.0))
+      go (inr (inl k)) = absurd (omega (arith, number k.0))
+      go (inr (inr k)) = (k.1.0, (fault_exactly table k.1.0).1.0 k.1.1)
+
+  limit_where : (age_answer book session base table age numbers ≡ Err refusal.RunningAmount)
       ↔ (Passes book session × (in_conflict run ≡ false) × (within ≡ true) × (GoodTable table × GoesBeyond (is_true run.trail) (age_base base table age) (lines_of numbers)))
   limit_where =
-      let exactly = said_late (well_formed book) (passes (formula_of book) session) (in_conflict run) within rest late 20 (lit< tt) in (
+      let exactly = said_late (well_formed book) (passes (formula_of book) session) (in_conflict run) within rest late refusal.RunningAmount (lit< tt) in (
         λ e.
             let k = exactly.0 (sym age_said ∙ e) in
-            let good = go (left (checked_table table) refl (ranges k.2).2 20 k.3) in
+            let good = go (left (checked_table table) refl (ranges k.2).2 refusal.RunningAmount k.3) in
             (k.0, k.1, k.2, ((good_exactly table).0 good, beyond.0 (sym (ap by good) ∙ k.3))),
         λ k. age_said ∙ exactly.1 (k.0, k.1, k.2, ap by ((good_exactly table).1 k.3.0) ∙ beyond.1 k.3.1),
       )
     where
-      beyond : (by Good ≡ Refused 20) ↔ GoesBeyond (is_true run.trail) (age_base base table age) (lines_of numbers)
+      beyond : (by (Ok tt) ≡ Err refusal.RunningAmount) ↔ GoesBeyond (is_true run.trail) (age_base base table age) (lines_of numbers)
       beyond = offered_20 (is_true run.trail) (age_base base table age) (lines_of numbers) (open_lines (is_true run.trail) (lines_of numbers))
 
-      go : {a b : Type 0} → ((◌≡◌ {A = ℕ} 20 20) × a) ⊎ (((◌≡◌ {A = ℕ} 20 25) ⊎ (◌≡◌ {A = ℕ} 20 26)) × b) → a
+      go : Left refusal.RunningAmount → checked_table table ≡ Ok tt
       go (inl k) = k.1
-      go (inr (inl k, b)) = absurd (omega (arith, k))
-      go (inr (inr k, b)) = absurd (omega (arith, k))
+      go (inr (inl k)) = absurd (omega (arith, number k.0))
+      go (inr (inr k)) = absurd (omega (arith, number k.0))
 
   -- Each refusal exactly where the text says.
   pub age_numbers : AgeRefusedWhere book session base table age numbers
@@ -144,56 +155,58 @@ module _ (book session : List ℕ) (base : ℤ) (table : List ℕ) (age : ℕ) (
       record {
         early = refused_early book session (age_answer book session base table age numbers) within rest late age_said;
         range = rw age_said (said_19 w p c within rest late);
-        in_none = fault_where 25 (lit< tt);
-        in_several = fault_where 26 (lit< tt);
+        in_none = gap_where;
+        in_several = overlap_where;
         limit = limit_where;
-        no_other = λ n e. other n (said_other w p c within rest late n (sym age_said ∙ e));
+        no_other = λ r e. other r (said_other w p c within rest late r (sym age_said ∙ e));
       }
     where
-      last : (n : ℕ) {a b : Type 0} → ((n ≡ 20) × a) ⊎ (((n ≡ 25) ⊎ (n ≡ 26)) × b) → (n ≡ 11) ⊎ (n ≡ 12) ⊎ (n ≡ 14) ⊎ (n ≡ 19) ⊎ (n ≡ 20) ⊎ (n ≡ 25) ⊎ (n ≡ 26)
-      last n (inl k) = inr (inr (inr (inr (inl k.0))))
-      last n (inr k) = inr (inr (inr (inr (inr k.0))))
+      last : (r : Refusal) → Left r
+          → (number_of r ≡ 11) ⊎ (number_of r ≡ 12) ⊎ (number_of r ≡ 14) ⊎ (number_of r ≡ 19) ⊎ (number_of r ≡ 20) ⊎ (number_of r ≡ 25) ⊎ (number_of r ≡ 26)
+      last r (inl k) = inr (inr (inr (inr (inl (number k.0)))))
+      last r (inr (inl k)) = inr (inr (inr (inr (inr (inl (number k.0))))))
+      last r (inr (inr k)) = inr (inr (inr (inr (inr (inr (number k.0))))))
 
-      other : (n : ℕ) → (n ≡ 11) ⊎ (n ≡ 12) ⊎ (n ≡ 14) ⊎ (n ≡ 19) ⊎ ((within ≡ true) × (rest ≡ Refused n))
-          → (n ≡ 11) ⊎ (n ≡ 12) ⊎ (n ≡ 14) ⊎ (n ≡ 19) ⊎ (n ≡ 20) ⊎ (n ≡ 25) ⊎ (n ≡ 26)
-      other n (inl k) = inl k
-      other n (inr (inl k)) = inr (inl k)
-      other n (inr (inr (inl k))) = inr (inr (inl k))
-      other n (inr (inr (inr (inl k)))) = inr (inr (inr (inl k)))
-      other n (inr (inr (inr (inr k)))) = last n (left (checked_table table) refl (ranges k.0).2 n k.1)
+      other : (r : Refusal) → (number_of r ≡ 11) ⊎ (number_of r ≡ 12) ⊎ (number_of r ≡ 14) ⊎ (number_of r ≡ 19) ⊎ ((within ≡ true) × (rest ≡ Err r))
+          → (number_of r ≡ 11) ⊎ (number_of r ≡ 12) ⊎ (number_of r ≡ 14) ⊎ (number_of r ≡ 19) ⊎ (number_of r ≡ 20) ⊎ (number_of r ≡ 25) ⊎ (number_of r ≡ 26)
+      other r (inl k) = inl k
+      other r (inr (inl k)) = inr (inl k)
+      other r (inr (inr (inl k))) = inr (inr (inl k))
+      other r (inr (inr (inr (inl k)))) = inr (inr (inr (inl k)))
+      other r (inr (inr (inr (inr k)))) = last r (left (checked_table table) refl (ranges k.0).2 r k.1)
 
   -- What is answered was not refused before the table was looked at.
-  pub age_accepted : (amount : ℤ) (n : ℕ) → age_answer book session base table age numbers ≡ Of amount n → 0 ≡ price_refusal book session base numbers
+  pub age_accepted : (amount : ℤ) (n : ℕ) → age_answer book session base table age numbers ≡ Ok (record { amount = amount; open_lines = n }) → 0 ≡ price_refusal book session base numbers
   unfolding age_answer
   age_accepted amount n e = go (eqb (price_refusal book session base numbers) 0) refl e
     where
       go : (t : Bool) → eqb (price_refusal book session base numbers) 0 ≡ t
-          → age_premium base (lines_of numbers) (factor_answer table age) (cond t (accepted run) (refused (price_refusal book session base numbers))) ≡ Of amount n → 0 ≡ price_refusal book session base numbers
+          → age_premium base (lines_of numbers) (factor_answer table age) (cond t (Ok run) (Err (refusal_of (price_refusal book session base numbers)))) ≡ Ok (record { amount = amount; open_lines = n }) → 0 ≡ price_refusal book session base numbers
       go true p r = sym (eqb-true _ 0 p)
-      go false p r = let z : ◌≡◌ {A = ℕ} 0 1 = cc in absurd (omega arith)
+      go false p r = cc
 
   -- An amount that is answered is within its limit at every line, from the scaled base on.
-  pub age_bounded : (amount : ℤ) (n : ℕ) → age_answer book session base table age numbers ≡ Of amount n → Bounded book session (age_base base table age) numbers amount n
+  pub age_bounded : (amount : ℤ) (n : ℕ) → age_answer book session base table age numbers ≡ Ok (record { amount = amount; open_lines = n }) → Bounded book session (age_base base table age) numbers amount n
   unfolding age_answer
   age_bounded amount n e = go (eqb (price_refusal book session base numbers) 0) (factor_answer table age) refl refl e
     where
-      go : (t : Bool) (answer : Factor) → eqb (price_refusal book session base numbers) 0 ≡ t → factor_answer table age ≡ answer
-          → age_premium base (lines_of numbers) answer (cond t (accepted run) (refused (price_refusal book session base numbers))) ≡ Of amount n → Bounded book session (age_base base table age) numbers amount n
-      go true (factor.Of f) p q r =
+      go : (t : Bool) (answer : Result ℕ Refusal) → eqb (price_refusal book session base numbers) 0 ≡ t → factor_answer table age ≡ answer
+          → age_premium base (lines_of numbers) answer (cond t (Ok run) (Err (refusal_of (price_refusal book session base numbers)))) ≡ Ok (record { amount = amount; open_lines = n }) → Bounded book session (age_base base table age) numbers amount n
+      go true (Ok f) p q r =
           let known = accepted_price book session base numbers (sym (eqb-true _ 0 p)) in
-          let parts = offered_of (open_lines (is_true run.trail) (lines_of numbers)) (priced_by (is_true run.trail) (At (scaled base f)) (lines_of numbers)) amount n r in
+          let parts = offered_of (open_lines (is_true run.trail) (lines_of numbers)) (priced_by (is_true run.trail) (Some (scaled base f)) (lines_of numbers)) amount n r in
           subst (λ (x : ℕ). Bounded book session (scaled base x) numbers amount n) (factor_told table age f (sym q)).2
           (bounded_from book session (scaled base f) numbers (scaled_small base f known.base_right (factor_most table age f (sym q))) known.list_right amount n parts.0 parts.1)
-      go true (factor.Refused number) p q r = let z : ◌≡◌ {A = ℕ} 0 1 = cc in absurd (omega arith)
-      go false answer p q r = let z : ◌≡◌ {A = ℕ} 0 1 = cc in absurd (omega arith)
+      go true (Err refused) p q r = cc
+      go false answer p q r = cc
 
   -- On a good table, as `price_by_closure` says it from the base itself on.
   pub age_by_closure : 0 ≡ price_refusal book session base numbers → GoodTable table → age ≤ max_age
       → (holds : ℕ → Bool) → ((l : ℕ) → (holds l ≡ true) ↔ Closure (formula_of book) (decisions run.trail) l)
-      → age_answer book session base table age numbers ≡ offered (open_lines holds (lines_of numbers)) (priced_by holds (At (age_base base table age)) (lines_of numbers))
+      → age_answer book session base table age numbers ≡ offered (open_lines holds (lines_of numbers)) (priced_by holds (Some (age_base base table age)) (lines_of numbers))
   age_by_closure e good h holds by-closure =
       let known = accepted_price book session base numbers e in
-      sym (age_answered book session base table age numbers e _ (factor_by_lem table age h Good (sym ((good_exactly table).1 good))))
+      sym (age_answered book session base table age numbers e _ (factor_by_lem table age h (Ok tt) (sym ((good_exactly table).1 good))))
       ∙ offered_by_closure book session (age_base base table age) numbers known.passed known.out holds by-closure
 
 -- On a good table the scaled base is base × factor ÷ 1,000 to the nearest cent, by the factor of the one band that the age lies in.
@@ -209,27 +222,31 @@ pub age_is_price : (book session : List ℕ) (base : ℤ) (table : List ℕ) →
     → (numbers : List ℤ) → age_answer book session base table age numbers ≡ premium_answer book session (age_base base table age) numbers
 unfolding age_answer premium_answer price_refusal
 age_is_price book session base table good age h same numbers =
-    rw (same, ← factor_by_lem table age h Good (sym ((good_exactly table).1 good))) (go (eqb (price_refusal book session base numbers) 0))
+    rw (same, ← factor_by_lem table age h (Ok tt) (sym ((good_exactly table).1 good))) (go (eqb (price_refusal book session base numbers) 0))
   where
     go : (t : Bool) →
         let run = held (formula_of book) session in
         let number = call_refusal book session (run_refusal (rates_within book base numbers)) in
-        age_premium base (lines_of numbers) (factor.Of (factor_at age (bands_of table))) (cond t (accepted run) (refused number))
-        ≡ premium_of (age_base base table age) (lines_of numbers) (cond t (accepted run) (refused number))
+        age_premium base (lines_of numbers) (Ok (factor_at age (bands_of table))) (cond t (Ok run) (Err (refusal_of number)))
+        ≡ premium_of (age_base base table age) (lines_of numbers) (cond t (Ok run) (Err (refusal_of number)))
     go true = refl
     go false = refl
 
 -- A table at fault is refused by its number at every age from 0 to 120.
 pub fault_whatever_age : (book session : List ℕ) (base : ℤ) (table : List ℕ) (age other : ℕ) (numbers : List ℤ) → other ≤ max_age
-    → (n : ℕ) → (n ≡ 25) ⊎ (n ≡ 26) → age_answer book session base table age numbers ≡ Refused n → age_answer book session base table other numbers ≡ Refused n
-fault_whatever_age book session base table age other numbers h n which e =
-    let k = (fault_where book session base table age numbers n (high which)).0 e in
-    let parts = ranges book session base table age numbers k.2 in
-    (fault_where book session base table other numbers n (high which)).1 (k.0, k.1, both parts.0 (both (le-leb other max_age h) parts.2), k.3)
+    → (r : Refusal) → (number_of r ≡ 25) ⊎ (number_of r ≡ 26) → age_answer book session base table age numbers ≡ Err r → age_answer book session base table other numbers ≡ Err r
+fault_whatever_age book session base table age other numbers h r which e = go which
   where
-    high : (n ≡ 25) ⊎ (n ≡ 26) → 20 < n
-    high (inl k) = omega (arith, k)
-    high (inr k) = omega (arith, k)
+    at_other : (m : Refusal) (n : ℕ) → FaultWhere book session base table age numbers m n → FaultWhere book session base table other numbers m n → r ≡ m
+        → age_answer book session base table other numbers ≡ Err r
+    at_other m n here there is =
+        let k = here.0 (e ∙ ap Err is) in
+        let parts = ranges book session base table age numbers k.2 in
+        there.1 (k.0, k.1, both parts.0 (both (le-leb other max_age h) parts.2), k.3) ∙ ap Err (sym is)
+
+    go : (number_of r ≡ 25) ⊎ (number_of r ≡ 26) → age_answer book session base table other numbers ≡ Err r
+    go (inl n) = at_other refusal.AgeGap 25 (gap_where book session base table age numbers) (gap_where book session base table other numbers) (sole r refusal.AgeGap n)
+    go (inr n) = at_other refusal.AgeOverlap 26 (overlap_where book session base table age numbers) (overlap_where book session base table other numbers) (sole r refusal.AgeOverlap n)
 
 -- The order of the bands does not matter.
 pub bands_any_order : (book session : List ℕ) (base : ℤ) (table others : List ℕ) → are_bands table ≡ true → are_bands others ≡ true → Reordered (bands_of table) (bands_of others)
@@ -245,15 +262,15 @@ unfolding age_answer
 same_decisions_same_age_price book a b e f same base table age numbers =
     rw (same_refusal book a b e f same base numbers) (go (eqb (price_refusal book b base numbers) 0) (factor_answer table age) refl)
   where
-    go : (t : Bool) (answer : Factor) → eqb (price_refusal book b base numbers) 0 ≡ t
-        → age_premium base (lines_of numbers) answer (cond t (accepted (held (formula_of book) a)) (refused (price_refusal book b base numbers)))
-        ≡ age_premium base (lines_of numbers) answer (cond t (accepted (held (formula_of book) b)) (refused (price_refusal book b base numbers)))
-    go true (factor.Of thousandths) q = same_offered book a b e f same base numbers (sym (eqb-true _ 0 q)) (scaled base thousandths)
-    go true (factor.Refused number) q = refl
+    go : (t : Bool) (answer : Result ℕ Refusal) → eqb (price_refusal book b base numbers) 0 ≡ t
+        → age_premium base (lines_of numbers) answer (cond t (Ok (held (formula_of book) a)) (Err (refusal_of (price_refusal book b base numbers))))
+        ≡ age_premium base (lines_of numbers) answer (cond t (Ok (held (formula_of book) b)) (Err (refusal_of (price_refusal book b base numbers))))
+    go true (Ok thousandths) q = same_offered book a b e f same base numbers (sym (eqb-true _ 0 q)) (scaled base thousandths)
+    go true (Err refused) q = refl
     go false answer q = refl
 
 -- The neutral table has the factor 1,000 at every age,
-neutral_good : checked_table neutral ≡ Good
+neutral_good : checked_table neutral ≡ Ok tt
 unfolding checked_table table_within are_bands bands_of band_within by_three all keep table at_fault bands_at lies_in
 neutral_good = refl
 

@@ -4,7 +4,7 @@ use mathlib.Core.Bool.{Bool, true, false, cond, and-false}
 use mathlib.Core.List.{List}
 use mathlib.Core.Path.{◌≡◌, refl, sym, ap, subst, ◌∙◌}
 use native.Mathlib.Omega.{arith}
-use borrow.Author.Tests.{ltb-true, leb-true, eqb-true, eqb-false, ne_eqb}
+use borrow.Author.Tests.{ltb-true, leb-true, eqb-true, ne_eqb}
 use lib.Dec.{T, leb, eqb}
 use lib.IntN.{ℤ, pos, negsuc, nat_abs}
 use lib.Signed.{lt_z}
@@ -15,15 +15,17 @@ use Rattle.run.specs.Run.{Run, in_conflict}
 use Rattle.run.proofs.Conflicts.{quiet_out, out_quiet}
 use Rattle.layout.specs.Layout.{held}
 use Rattle.validation.specs.Validation.{passes, call_refusal, read_refusal}
-use Rattle.session.specs.Outcomes.{accepted, refused, figures_answer}
-use Rattle.session.specs.declared.Shown.TheVariants as shown
-use Rattle.session.proofs.ToldLaws.{outcome_accepted, outcome_refused, shown_refused, shown_conflict}
-use Rattle.session.proofs.PassedLaws.{refused_first, none_first, own_refusal}
+use Rattle.std.specs.Prelude.{Result, Ok, Err, Option, Some, None}
+use Rattle.refusals.specs.declared.Refusal.{Refusal}
+use Rattle.refusals.specs.Refusals.{refusal_of, checked}
+use Rattle.refusals.proofs.OutcomeLaws.{outcome_accepted, outcome_refused, refused_alike}
+use Rattle.session.specs.Outcomes.{figures_answer}
+use Rattle.session.specs.declared.Shown.{Shown}
+use Rattle.session.proofs.ToldLaws.{shown_refused, shown_conflict}
+use Rattle.session.proofs.AnswerLaws.{refused_alike_first}
+use Rattle.session.proofs.PassedLaws.{none_first, own_refusal}
 use Rattle.rating.specs.Pricing.{max_base, max_running, base_within, list_within, lines_of, priced_by, open_lines, offered, premium_of, rates_within, run_refusal, price_refusal, premium_answer}
 use Rattle.rating.specs.declared.Premium.{Premium}
-use Rattle.rating.specs.declared.Premium.TheVariants.{Of, Refused}
-use Rattle.rating.specs.declared.Priced.{Priced}
-use Rattle.rating.specs.declared.Priced.TheVariants.{At, Beyond}
 
 pub base_negative : (x : ℤ) → lt_z x (pos 0) ≡ true → false ≡ base_within x
 unfolding base_within
@@ -45,9 +47,11 @@ pub base_small : (x : ℤ) → base_within x ≡ true → nat_abs x ≤ max_runn
 base_small x e = omega (arith, base_most x e)
 
 -- what the lines come to where there is an amount
-pub offered_of : (count : ℕ) (state : Priced) (amount : ℤ) (n : ℕ) → offered count state ≡ Of amount n → (state ≡ At amount) × (count ≡ n)
-offered_of count (At x) amount n e = (cc, cc)
-offered_of count Beyond amount n e = let z : ◌≡◌ {A = ℕ} 0 1 = cc in absurd (omega arith)
+pub offered_of : (count : ℕ) (state : Option ℤ) (amount : ℤ) (n : ℕ) → offered count state ≡ Ok (record { amount = amount; open_lines = n }) → (state ≡ Some amount) × (count ≡ n)
+offered_of count (Some x) amount n e =
+    let same : ◌≡◌ {A = Premium} (record { amount = x; open_lines = count }) (record { amount = amount; open_lines = n }) = cc in
+    (ap Some (ap (λ (p : Premium). p.amount) same), ap (λ (p : Premium). p.open_lines) same)
+offered_of count None amount n e = cc
 
 module _ (book session : List ℕ) where
   abbrev run : Run
@@ -57,31 +61,30 @@ module _ (book session : List ℕ) where
   abbrev session_refusal : ℕ
   session_refusal = call_refusal book session (run_refusal true)
 
-  pub figures_refuse : (n : ℕ) → shown.Refused n ≡ figures_answer book session → n ≡ session_refusal
+  pub figures_refuse : (r : Refusal) → Err r ≡ figures_answer book session → Err r ≡ checked session_refusal
   unfolding figures_answer
-  figures_refuse n e =
-      let told = outcome_refused (read_refusal book session) run n (shown_refused n _ e) in
-      refused_first book session (run_refusal true) n (sym told.0) (λ z. eqb-false _ 0 told.1 (told.0 ∙ z))
+  figures_refuse r e =
+      refused_alike_first book session (run_refusal true) r (sym (refused_alike (read_refusal book session) run tt r (shown_refused r _ e)))
 
-  module _ (d b t c : ℕ) (e : shown.Of d b t c ≡ figures_answer book session) where
-    figures-tell : (0 ≡ read_refusal book session) × (c ≡ run.conflict)
+  module _ (shown : Shown) (e : Ok shown ≡ figures_answer book session) where
+    figures_tell : (0 ≡ read_refusal book session) × (shown.conflict ≡ run.conflict)
     unfolding figures_answer
-    figures-tell =
-        let told = shown_conflict d b t c _ e in
-        let of-run = outcome_accepted (read_refusal book session) run told.0 told.1 in
-        (of-run.0, told.2 ∙ sym (ap (λ (r : Run). r.conflict) of-run.1))
+    figures_tell =
+        let told = shown_conflict shown _ e in
+        let of_run = outcome_accepted (read_refusal book session) run told.0 told.1 in
+        (sym of_run.0, told.2 ∙ sym (ap (λ (r : Run). r.conflict) of_run.1))
 
-    pub figures_conflict : (c ≡ 0 → ⊥) → 14 ≡ session_refusal
-    figures_conflict h = sym (own_refusal book session figures-tell.0 (run_refusal true) ∙ rw (← figures-tell.1, ne_eqb c 0 h))
+    pub figures_conflict : (shown.conflict ≡ 0 → ⊥) → 14 ≡ session_refusal
+    figures_conflict h = sym (own_refusal book session figures_tell.0 (run_refusal true) ∙ rw (← figures_tell.1, ne_eqb shown.conflict 0 h))
 
-    pub figures_quiet : c ≡ 0 → 0 ≡ session_refusal
-    figures_quiet z = sym (own_refusal book session figures-tell.0 (run_refusal true) ∙ rw (quiet_out run (sym figures-tell.1 ∙ z)))
+    pub figures_quiet : shown.conflict ≡ 0 → 0 ≡ session_refusal
+    figures_quiet z = sym (own_refusal book session figures_tell.0 (run_refusal true) ∙ rw (quiet_out run (sym figures_tell.1 ∙ z)))
 
   module _ (base : ℤ) (numbers : List ℤ) where
     abbrev right : Bool
     right = rates_within book base numbers
 
-    pub refused_before : (n : ℕ) → n ≡ session_refusal → (n ≡ 0 → ⊥) → n ≡ price_refusal book session base numbers
+    refused_before : (n : ℕ) → n ≡ session_refusal → (n ≡ 0 → ⊥) → n ≡ price_refusal book session base numbers
     unfolding price_refusal call_refusal
     refused_before n e h = go (well_formed book) (passes (formula_of book) session) (in_conflict run) e
       where
@@ -90,6 +93,9 @@ module _ (book session : List ℕ) where
         go true true false q = absurd (h q)
         go true false c q = q
         go false p c q = q
+
+    pub session_refused : (r : Refusal) → Err r ≡ checked session_refusal → Err r ≡ checked (price_refusal book session base numbers)
+    session_refused r e = let refused = outcome_refused _ _ r (sym e) in rw (← refused_before session_refusal refl refused.0) e
 
     module _ (quiet : 0 ≡ session_refusal) where
       own : cond right 0 19 ≡ price_refusal book session base numbers
@@ -133,27 +139,29 @@ module _ (book session : List ℕ) where
         go false false q = absurd (omega arith)
 
     -- the answer, refused or not
-    pub answers_refused : (n : ℕ) → n ≡ price_refusal book session base numbers → (n ≡ 0 → ⊥) → Refused n ≡ premium_answer book session base numbers
+    pub answers_refused : (r : Refusal) → Err r ≡ checked (price_refusal book session base numbers) → Err r ≡ premium_answer book session base numbers
     unfolding premium_answer
-    answers_refused n e h = rw (← e, ne_eqb n 0 h)
+    answers_refused r e =
+        let refused = outcome_refused _ _ r (sym e) in
+        rw (ne_eqb (price_refusal book session base numbers) 0 refused.0, refused.1)
 
-    pub answers_premium : 0 ≡ price_refusal book session base numbers → (p : Premium) → p ≡ premium_of base (lines_of numbers) (accepted run)
+    pub answers_premium : 0 ≡ price_refusal book session base numbers → (p : Result Premium Refusal) → p ≡ premium_of base (lines_of numbers) (Ok run)
         → p ≡ premium_answer book session base numbers
     unfolding premium_answer
     answers_premium e p is = is ∙ rw (← e)
 
     -- what an amount and a number of open lines tell
-    pub answered : (amount : ℤ) (n : ℕ) → premium_answer book session base numbers ≡ Of amount n
+    pub answered : (amount : ℤ) (n : ℕ) → premium_answer book session base numbers ≡ Ok (record { amount = amount; open_lines = n })
         → (0 ≡ price_refusal book session base numbers)
-        × (priced_by (is_true run.trail) (At base) (lines_of numbers) ≡ At amount)
+        × (priced_by (is_true run.trail) (Some base) (lines_of numbers) ≡ Some amount)
         × (open_lines (is_true run.trail) (lines_of numbers) ≡ n)
     unfolding premium_answer
     answered amount n e = go (eqb (price_refusal book session base numbers) 0) refl e
       where
         go : (t : Bool) → eqb (price_refusal book session base numbers) 0 ≡ t
-            → premium_of base (lines_of numbers) (cond t (accepted run) (refused (price_refusal book session base numbers))) ≡ Of amount n
+            → premium_of base (lines_of numbers) (cond t (Ok run) (Err (refusal_of (price_refusal book session base numbers)))) ≡ Ok (record { amount = amount; open_lines = n })
             → (0 ≡ price_refusal book session base numbers)
-            × (priced_by (is_true run.trail) (At base) (lines_of numbers) ≡ At amount)
+            × (priced_by (is_true run.trail) (Some base) (lines_of numbers) ≡ Some amount)
             × (open_lines (is_true run.trail) (lines_of numbers) ≡ n)
         go true p q = let parts = offered_of _ _ amount n q in (sym (eqb-true _ 0 p), parts.0, parts.1)
-        go false p q = let z : ◌≡◌ {A = ℕ} 0 1 = cc in absurd (omega arith)
+        go false p q = cc

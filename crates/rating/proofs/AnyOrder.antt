@@ -11,6 +11,7 @@ use Rattle.base.proofs.Bools.{and_parts, never}
 use Rattle.base.proofs.Counts.{count_reordered}
 use Rattle.base.proofs.Lists.{length_reordered, all_reordered}
 use Rattle.base.proofs.Signed.{size_sum}
+use Rattle.std.specs.Prelude.{Option, Some}
 use Rattle.book.specs.Numbers.{well_formed, variables_of, formula_of}
 use Rattle.run.specs.Trail.{is_true}
 use Rattle.run.specs.Run.{in_conflict}
@@ -20,8 +21,6 @@ use Rattle.rating.specs.Pricing.{max_amount, max_running, lines_of, are_lines, c
 use Rattle.rating.specs.Statement.{is_amount, amounts_only}
 use Rattle.rating.specs.declared.Change.{Change}
 use Rattle.rating.specs.declared.Change.TheVariants.{Amount, Thousandths}
-use Rattle.rating.specs.declared.Priced.{Priced}
-use Rattle.rating.specs.declared.Priced.TheVariants.{At}
 use Rattle.rating.specs.declared.RateLine.{RateLine}
 use Rattle.rating.proofs.PricingLaws.{amount_small, limited_within, list_parts, line_parts}
 use Rattle.rating.proofs.AnswerLaws.{base_most}
@@ -61,29 +60,29 @@ module _ (holds : ℕ → Bool) where
       go true (Amount c) a w = amount_small c w
       go true (Thousandths part) a w = absurd (never a refl)
 
-  reached : (line : RateLine) (x : ℤ) → is_amount line.change ≡ true → nat_abs (x +ℤ adds line) ≤ max_running → stepped holds (At x) line ≡ At (x +ℤ adds line)
+  reached : (line : RateLine) (x : ℤ) → is_amount line.change ≡ true → nat_abs (x +ℤ adds line) ≤ max_running → stepped holds (Some x) line ≡ Some (x +ℤ adds line)
   unfolding stepped applied
   reached line x amount h = go (holds line.literal) line.change amount h
     where
       go : (t : Bool) (change : Change) → is_amount change ≡ true → nat_abs (x +ℤ cond t (cents change) (pos 0)) ≤ max_running
-          → cond t (limited (applied x change)) (At x) ≡ At (x +ℤ cond t (cents change) (pos 0))
-      go false change a h = ap At (sym (+ℤ_idr x))
+          → cond t (limited (applied x change)) (Some x) ≡ Some (x +ℤ cond t (cents change) (pos 0))
+      go false change a h = ap Some (sym (+ℤ_idr x))
       go true (Amount c) a h = sym (limited_within (x +ℤ c) h)
       go true (Thousandths part) a h = absurd (never a refl)
 
   -- so few lines stay within the limit
   all_reached : (v : ℕ) (lines : List RateLine) (x : ℤ) → amounts_only lines ≡ true → all (line_within v) lines ≡ true
-      → nat_abs x + max_amount * length lines ≤ max_running → priced_by holds (At x) lines ≡ At (x +ℤ added lines)
+      → nat_abs x + max_amount * length lines ≤ max_running → priced_by holds (Some x) lines ≡ Some (x +ℤ added lines)
   unfolding priced_by all added
-  all_reached v [] x a w h = ap At (sym (+ℤ_idr x))
+  all_reached v [] x a w h = ap Some (sym (+ℤ_idr x))
   all_reached v (line ∷ lines) x a w h =
       let amount = and_parts (is_amount line.change) (amounts_only lines) a in
       let within = and_parts (line_within v line) (all (line_within v) lines) w in
       let small = adds-small line amount.0 (line_parts v line within.0).1 in
       let size = size_sum x (adds line) in
-      ap (λ (s : Priced). priced_by holds s lines) (reached line x amount.0 (omega (arith, size, small, h)))
+      ap (λ (s : Option ℤ). priced_by holds s lines) (reached line x amount.0 (omega (arith, size, small, h)))
       ∙ all_reached v lines (x +ℤ adds line) amount.1 within.1 (omega (arith, size, small, h))
-      ∙ ap At (+ℤ_assoc x (adds line) (added lines))
+      ∙ ap Some (+ℤ_assoc x (adds line) (added lines))
 
 -- Two lists of whole lines, the same ones in any order, all with amounts, are answered alike, refused or not.
 module _ (book session : List ℕ) (base : ℤ) (numbers others : List ℤ) (whole : are_lines numbers ≡ true) (whole-too : are_lines others ≡ true)
@@ -105,7 +104,7 @@ module _ (book session : List ℕ) (base : ℤ) (numbers others : List ℤ) (who
       let there = list_parts (variables_of book) others (sym same_list ∙ both.1) in
       let small = base_most base both.0 in
       all_reached holds (variables_of book) (lines_of numbers) base all-amounts here.2 (omega (arith, small, here.1))
-      ∙ ap (λ (s : ℤ). At (base +ℤ s)) (added_reordered holds r)
+      ∙ ap (λ (s : ℤ). Some (base +ℤ s)) (added_reordered holds r)
       ∙ sym (all_reached holds (variables_of book) (lines_of others) base (sym (all_reordered (λ (line : RateLine). is_amount line.change) r) ∙ all-amounts) there.2 (omega (arith, small, there.1)))
 
   pub amounts_commute : premium_answer book session base numbers ≡ premium_answer book session base others

@@ -26,17 +26,16 @@ use Rattle.run.proofs.Opposites.{same_variable, opposite_opposite, opposite_posi
 use Rattle.run.proofs.Theorems.{same_decisions_agree, conflicting_decisions}
 use Rattle.layout.specs.Layout.{held}
 use Rattle.validation.specs.Validation.{read_refusal}
-use Rattle.session.specs.Outcomes.{accepted, refused, lookup_answer}
+use Rattle.std.specs.Prelude.{Ok, Err, Option, Some, None}
+use Rattle.refusals.specs.Refusals.{refusal_of}
+use Rattle.session.specs.Outcomes.{lookup_answer}
 use Rattle.session.specs.declared.Assigned.TheVariants as assigned
 use Rattle.session.proofs.PassedLaws.{well, facts, own_refusal}
 use Rattle.session.proofs.LookupLaws.{shows_open}
 use Rattle.session.proofs.Statements.{statement_2}
 use Rattle.rating.specs.Pricing.{max_running, lines_of, line_within, list_within, priced_by, open_lines, one_if_open, offered, premium_of, rates_within, run_refusal, price_refusal, premium_answer, line_open}
 use Rattle.rating.specs.Statement.{after, Bounded}
-use Rattle.rating.specs.declared.Priced.{Priced}
-use Rattle.rating.specs.declared.Priced.TheVariants.{At, Beyond}
 use Rattle.rating.specs.declared.RateLine.{RateLine}
-use Rattle.rating.specs.declared.Premium.TheVariants.{Of}
 use Rattle.rating.proofs.PricingLaws.{Small, at_small, priced_small, priced_append, priced_beyond, open_first, priced_alike, open_alike, list_parts, line_parts}
 use Rattle.rating.proofs.AnswerLaws.{base_small, accepted_price, answered}
 
@@ -47,13 +46,13 @@ open_is_neither false false = (λ e. (refl, refl), λ k. refl)
 
 -- A line is open exactly where lookup tells that its variable is.
 pub open_by_lookup : (book session : List ℕ) → read_refusal book session ≡ 0 → (l : ℕ) → literal_within (variables_of book) l ≡ true
-    → (one_if_open (is_true (held (formula_of book) session).trail) l ≡ 1) ↔ (lookup_answer book session (variable_of l) ≡ assigned.Open)
+    → (one_if_open (is_true (held (formula_of book) session).trail) l ≡ 1) ↔ (lookup_answer book session (variable_of l) ≡ Ok assigned.Open)
 open_by_lookup book session e l within = go (same_variable (positive (variable_of l)) l (omega arith))
   where
     holds : ℕ → Bool
     holds = is_true (held (formula_of book) session).trail
 
-    shows : (lookup_answer book session (variable_of l) ≡ assigned.Open) ↔ ((holds (positive (variable_of l)) ≡ false) × (holds (negative (variable_of l)) ≡ false))
+    shows : (lookup_answer book session (variable_of l) ≡ Ok assigned.Open) ↔ ((holds (positive (variable_of l)) ≡ false) × (holds (negative (variable_of l)) ≡ false))
     shows =
         let parts = literal_parts (variables_of book) l within in
         shows_open book session (sym e) (variable_of l) (omega (arith, parts.0)) (omega (arith, parts.1))
@@ -61,7 +60,7 @@ open_by_lookup book session e l within = go (same_variable (positive (variable_o
     is_open : (one_if_open holds l ≡ 1) ↔ ((holds l ≡ false) × (holds (opposite l) ≡ false))
     is_open = open_is_neither (holds l) (holds (opposite l))
 
-    go : (positive (variable_of l) ≡ l) ⊎ (positive (variable_of l) ≡ opposite l) → (one_if_open holds l ≡ 1) ↔ (lookup_answer book session (variable_of l) ≡ assigned.Open)
+    go : (positive (variable_of l) ≡ l) ⊎ (positive (variable_of l) ≡ opposite l) → (one_if_open holds l ≡ 1) ↔ (lookup_answer book session (variable_of l) ≡ Ok assigned.Open)
     go (inl is) =
         let other : negative (variable_of l) ≡ opposite l = sym (opposite_positive (variable_of l)) ∙ ap opposite is in (
           λ o. let k = is_open.0 o in shows.1 (ap holds is ∙ k.0, ap holds other ∙ k.1),
@@ -92,33 +91,33 @@ module _ (book session : List ℕ) (base : ℤ) (numbers : List ℤ) where
 
   -- from a start within the limit of the running amount on
   pub bounded_from : nat_abs base ≤ max_running → list_within (variables_of book) numbers ≡ true → (amount : ℤ) (n : ℕ)
-      → priced_by (is_true run.trail) (At base) lines ≡ At amount → open_lines (is_true run.trail) lines ≡ n → Bounded book session base numbers amount n
+      → priced_by (is_true run.trail) (Some base) lines ≡ Some amount → open_lines (is_true run.trail) lines ≡ n → Bounded book session base numbers amount n
   unfolding open_lines
   bounded_from most list_right amount n priced counted =
       let small = at_small base most in
       let few-of-them : open_lines (is_true run.trail) lines ≤ length lines = count_few (line_open (is_true run.trail)) lines in
-      let whole : after book session base numbers (length lines) ≡ At amount
-      = ap (priced_by (is_true run.trail) (At base)) (take_all (length lines) lines (omega arith)) ∙ priced in
+      let whole : after book session base numbers (length lines) ≡ Some amount
+      = ap (priced_by (is_true run.trail) (Some base)) (take_all (length lines) lines (omega arith)) ∙ priced in
       record {
         every_line = λ j.
-            let parted : priced_by (is_true run.trail) (after book session base numbers j) (drop j lines) ≡ At amount
-            = sym (priced_append (is_true run.trail) (take j lines) (drop j lines) (At base)) ∙ ap (priced_by (is_true run.trail) (At base)) (take-append-drop j lines) ∙ priced in
-            go (drop j lines) (after book session base numbers j) refl parted (priced_small (is_true run.trail) (take j lines) (At base) small);
+            let parted : priced_by (is_true run.trail) (after book session base numbers j) (drop j lines) ≡ Some amount
+            = sym (priced_append (is_true run.trail) (take j lines) (drop j lines) (Some base)) ∙ ap (priced_by (is_true run.trail) (Some base)) (take-append-drop j lines) ∙ priced in
+            go (drop j lines) (after book session base numbers j) refl parted (priced_small (is_true run.trail) (take j lines) (Some base) small);
         last = whole;
-        amount_within = priced_small (is_true run.trail) lines (At base) small amount priced;
+        amount_within = priced_small (is_true run.trail) lines (Some base) small amount priced;
         few_open = omega (arith, counted, few-of-them);
         few_lines = (list_parts (variables_of book) numbers list_right).1;
       }
     where
-      go : (rest : List RateLine) (state : Priced) {now : Priced} → now ≡ state → priced_by (is_true run.trail) now rest ≡ At amount → Small now
-          → (running : ℤ) × (now ≡ At running) × (nat_abs running ≤ max_running)
-      go rest (At x) is ends small = (x, is, small x is)
-      go rest Beyond is ends small =
-          let w = sym (priced_beyond (is_true run.trail) rest) ∙ ap (λ (s : Priced). priced_by (is_true run.trail) s rest) (sym is) ∙ ends in
-          let z : ◌≡◌ {A = ℕ} 0 1 = cc in absurd (omega arith)
+      go : (rest : List RateLine) (state : Option ℤ) {now : Option ℤ} → now ≡ state → priced_by (is_true run.trail) now rest ≡ Some amount → Small now
+          → (running : ℤ) × (now ≡ Some running) × (nat_abs running ≤ max_running)
+      go rest (Some x) is ends small = (x, is, small x is)
+      go rest None is ends small =
+          let w = sym (priced_beyond (is_true run.trail) rest) ∙ ap (λ (s : Option ℤ). priced_by (is_true run.trail) s rest) (sym is) ∙ ends in
+          cc
 
   -- An amount that is answered is within its limit at every line.
-  pub amount_bounded : (amount : ℤ) (n : ℕ) → premium_answer book session base numbers ≡ Of amount n → Bounded book session base numbers amount n
+  pub amount_bounded : (amount : ℤ) (n : ℕ) → premium_answer book session base numbers ≡ Ok (record { amount = amount; open_lines = n }) → Bounded book session base numbers amount n
   amount_bounded amount n e =
       let told = answered book session base numbers amount n e in
       let known = accepted_price book session base numbers told.0 in
@@ -128,25 +127,25 @@ module _ (book session : List ℕ) (base : ℤ) (numbers : List ℤ) where
   -- closure, what the lines come to follows from it, the start and the list;
   pub offered_by_closure : read_refusal book session ≡ 0 → run.conflict ≡ 0
       → (holds : ℕ → Bool) → ((l : ℕ) → (holds l ≡ true) ↔ Closure (formula_of book) (decisions run.trail) l)
-      → premium_of base lines (accepted run) ≡ offered (open_lines holds lines) (priced_by holds (At base) lines)
+      → premium_of base lines (Ok run) ≡ offered (open_lines holds lines) (priced_by holds (Some base) lines)
   offered_by_closure passed out holds by-closure =
       let closed = (statement_2 book session passed).closure out in
       let agree : (l : ℕ) → is_true run.trail l ≡ holds l
       = λ l. same_test (is_true run.trail l) (holds l) (λ t. (by-closure l).1 ((closed l).0 t)) (λ t. (closed l).1 ((by-closure l).0 t)) in
-      ap₂ offered (open_alike (is_true run.trail) holds agree lines) (priced_alike (is_true run.trail) holds agree lines (At base))
+      ap₂ offered (open_alike (is_true run.trail) holds agree lines) (priced_alike (is_true run.trail) holds agree lines (Some base))
 
   -- and so does the answer.
   pub price_by_closure : 0 ≡ price_refusal book session base numbers
       → (holds : ℕ → Bool) → ((l : ℕ) → (holds l ≡ true) ↔ Closure (formula_of book) (decisions run.trail) l)
-      → premium_answer book session base numbers ≡ offered (open_lines holds lines) (priced_by holds (At base) lines)
+      → premium_answer book session base numbers ≡ offered (open_lines holds lines) (priced_by holds (Some base) lines)
   unfolding premium_answer
   price_by_closure e holds by-closure =
       let known = accepted_price book session base numbers e in
       rw (← e) (offered_by_closure known.passed known.out holds by-closure)
 
   -- Where no variable is open, no line is.
-  pub all_assigned : (amount : ℤ) (n : ℕ) → premium_answer book session base numbers ≡ Of amount n
-      → ((v : ℕ) → 1 ≤ v → v ≤ variables_of book → lookup_answer book session v ≡ assigned.Open → ⊥) → n ≡ 0
+  pub all_assigned : (amount : ℤ) (n : ℕ) → premium_answer book session base numbers ≡ Ok (record { amount = amount; open_lines = n })
+      → ((v : ℕ) → 1 ≤ v → v ≤ variables_of book → lookup_answer book session v ≡ Ok assigned.Open → ⊥) → n ≡ 0
   all_assigned amount n e none_open =
       let told = answered book session base numbers amount n e in
       let known = accepted_price book session base numbers told.0 in
@@ -188,12 +187,12 @@ module _ (book a b : List ℕ) (e : read_refusal book a ≡ 0) (f : read_refusal
 
   module _ (base : ℤ) (numbers : List ℤ) where
     -- the lines come to the same in both, from any start on
-    pub same_offered : 0 ≡ price_refusal book b base numbers → (start : ℤ) → premium_of start (lines_of numbers) (accepted run_a) ≡ premium_of start (lines_of numbers) (accepted run_b)
+    pub same_offered : 0 ≡ price_refusal book b base numbers → (start : ℤ) → premium_of start (lines_of numbers) (Ok run_a) ≡ premium_of start (lines_of numbers) (Ok run_b)
     same_offered quiet start =
         let out = (accepted_price book b base numbers quiet).out in
         let agree = same_decisions_agree (formula_of book) run_a run_b s valid_a valid_b same (out_quiet run_a (alike ∙ quiet_out run_b out)) out in
         ap₂ offered (open_alike (is_true run_a.trail) (is_true run_b.trail) agree (lines_of numbers))
-        (priced_alike (is_true run_a.trail) (is_true run_b.trail) agree (lines_of numbers) (At start))
+        (priced_alike (is_true run_a.trail) (is_true run_b.trail) agree (lines_of numbers) (Some start))
 
     pub same_refusal : price_refusal book a base numbers ≡ price_refusal book b base numbers
     same_refusal = own_price book a base numbers (sym e) ∙ rw alike (sym (own_price book b base numbers (sym f)))
@@ -204,7 +203,7 @@ module _ (book a b : List ℕ) (e : read_refusal book a ≡ 0) (f : read_refusal
     same_decisions_same_price = rw same_refusal (go (eqb (price_refusal book b base numbers) 0) refl)
       where
         go : (t : Bool) → eqb (price_refusal book b base numbers) 0 ≡ t
-            → premium_of base (lines_of numbers) (cond t (accepted run_a) (refused (price_refusal book b base numbers)))
-            ≡ premium_of base (lines_of numbers) (cond t (accepted run_b) (refused (price_refusal book b base numbers)))
+            → premium_of base (lines_of numbers) (cond t (Ok run_a) (Err (refusal_of (price_refusal book b base numbers))))
+            ≡ premium_of base (lines_of numbers) (cond t (Ok run_b) (Err (refusal_of (price_refusal book b base numbers))))
         go true q = same_offered (sym (eqb-true _ 0 q)) base
         go false q = refl

@@ -13,12 +13,11 @@ use Rattle.base.proofs.Bools.{and_parts}
 use Rattle.base.proofs.Counts.{count_first}
 use Rattle.base.proofs.Signed.{size_negated, product_within}
 use Rattle.base.proofs.Threes.{ranged_parts}
+use Rattle.std.specs.Prelude.{Option, Some, None}
 use Rattle.book.specs.Formula.{literal_within}
 use Rattle.run.specs.Trail.{opposite}
 use Rattle.rating.specs.Pricing.{max_lines, max_amount, max_thousandths, max_running, line_of, lines_of, of_kind, are_lines, change_within, line_within, list_within, rounded, applied, limited, stepped, priced_by, open_lines, one_if_open, line_open}
 use Rattle.rating.specs.declared.Change.TheVariants.{Amount, Thousandths}
-use Rattle.rating.specs.declared.Priced.{Priced}
-use Rattle.rating.specs.declared.Priced.TheVariants.{At, Beyond}
 use Rattle.rating.specs.declared.RateLine.{RateLine}
 
 -- what is within its range is small
@@ -42,61 +41,61 @@ change_small running part h k =
     (product, omega (arith, rounded_size (running *ℤ part)))
 
 -- the limit
-pub limited_over : (x : ℤ) → max_running < nat_abs x → Beyond ≡ limited x
+pub limited_over : (x : ℤ) → max_running < nat_abs x → None ≡ limited x
 unfolding limited
 limited_over x h = rw (lt-leb (nat_abs x) max_running h)
 
-pub limited_within : (x : ℤ) → nat_abs x ≤ max_running → At x ≡ limited x
+pub limited_within : (x : ℤ) → nat_abs x ≤ max_running → Some x ≡ limited x
 unfolding limited
 limited_within x h = rw (le-leb (nat_abs x) max_running h)
 
 -- a running amount is within it
-abbrev pub Small : Priced → Type 0
-Small state = (running : ℤ) → state ≡ At running → nat_abs running ≤ max_running
+abbrev pub Small : Option ℤ → Type 0
+Small state = (running : ℤ) → state ≡ Some running → nat_abs running ≤ max_running
 
-pub at_small : (x : ℤ) → nat_abs x ≤ max_running → Small (At x)
+pub at_small : (x : ℤ) → nat_abs x ≤ max_running → Small (Some x)
 at_small x h running e = let same : running ≡ x = cc in rw same h
 
 limited_small : (x : ℤ) → Small (limited x)
 unfolding limited
 limited_small x running e = go (leb (nat_abs x) max_running) refl e
   where
-    go : (t : Bool) → leb (nat_abs x) max_running ≡ t → cond t (At x) Beyond ≡ At running → nat_abs running ≤ max_running
+    go : (t : Bool) → leb (nat_abs x) max_running ≡ t → cond t (Some x) None ≡ Some running → nat_abs running ≤ max_running
     go true p q = at_small x (leb-true (nat_abs x) max_running p) running q
-    go false p q = let z : ◌≡◌ {A = ℕ} 0 1 = cc in absurd (omega arith)
+    go false p q = cc
 
 module _ (holds : ℕ → Bool) where
-  pub stepped_small : (state : Priced) (line : RateLine) → Small state → Small (stepped holds state line)
+  pub stepped_small : (state : Option ℤ) (line : RateLine) → Small state → Small (stepped holds state line)
   unfolding stepped
-  stepped_small Beyond line s = s
-  stepped_small (At x) line s = go (holds line.literal)
+  stepped_small None line s = s
+  stepped_small (Some x) line s = go (holds line.literal)
     where
-      go : (t : Bool) → Small (cond t (limited (applied x line.change)) (At x))
+      go : (t : Bool) → Small (cond t (limited (applied x line.change)) (Some x))
       go true = limited_small (applied x line.change)
       go false = s
 
-  pub priced_small : (lines : List RateLine) (state : Priced) → Small state → Small (priced_by holds state lines)
+  pub priced_small : (lines : List RateLine) (state : Option ℤ) → Small state → Small (priced_by holds state lines)
   unfolding priced_by
   priced_small [] state s = s
   priced_small (line ∷ lines) state s = priced_small lines (stepped holds state line) (stepped_small state line s)
 
   -- one list of lines after the other
-  pub priced_append : (front back : List RateLine) (state : Priced) → priced_by holds state (front ++ back) ≡ priced_by holds (priced_by holds state front) back
+  pub priced_append : (front back : List RateLine) (state : Option ℤ) → priced_by holds state (front ++ back) ≡ priced_by holds (priced_by holds state front) back
   unfolding priced_by
   priced_append [] back state = refl
   priced_append (line ∷ front) back state = priced_append front back (stepped holds state line)
 
   -- no line heals
-  pub priced_beyond : (lines : List RateLine) → priced_by holds Beyond lines ≡ Beyond
+  pub priced_beyond : (lines : List RateLine) → priced_by holds None lines ≡ None
   unfolding priced_by stepped
   priced_beyond [] = refl
   priced_beyond (line ∷ lines) = priced_beyond lines
 
   -- a line whose literal is not true changes nothing
-  pub unmet : (state : Priced) (line : RateLine) → holds line.literal ≡ false → stepped holds state line ≡ state
+  pub unmet : (state : Option ℤ) (line : RateLine) → holds line.literal ≡ false → stepped holds state line ≡ state
   unfolding stepped
-  unmet (At x) line e = rw e
-  unmet Beyond line e = refl
+  unmet (Some x) line e = rw e
+  unmet None line e = refl
 
   pub open_first : (line : RateLine) (lines : List RateLine) → open_lines holds (line ∷ lines) ≡ one_if_open holds line.literal + open_lines holds lines
   unfolding open_lines
@@ -104,12 +103,12 @@ module _ (holds : ℕ → Bool) where
 
 -- tests that agree come to the same
 module _ (f g : ℕ → Bool) (agree : (l : ℕ) → f l ≡ g l) where
-  step-alike : (state : Priced) (line : RateLine) → stepped f state line ≡ stepped g state line
+  step-alike : (state : Option ℤ) (line : RateLine) → stepped f state line ≡ stepped g state line
   unfolding stepped
-  step-alike (At x) line = rw (agree line.literal)
-  step-alike Beyond line = refl
+  step-alike (Some x) line = rw (agree line.literal)
+  step-alike None line = refl
 
-  pub priced_alike : (lines : List RateLine) (state : Priced) → priced_by f state lines ≡ priced_by g state lines
+  pub priced_alike : (lines : List RateLine) (state : Option ℤ) → priced_by f state lines ≡ priced_by g state lines
   unfolding priced_by
   priced_alike [] state = refl
   priced_alike (line ∷ lines) state = rw (step-alike state line) (priced_alike lines (stepped g state line))

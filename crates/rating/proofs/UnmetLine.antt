@@ -11,6 +11,7 @@ use Rattle.base.specs.Lists.{all, by_three, all_threes}
 use Rattle.base.proofs.Counts.{count_append}
 use Rattle.base.proofs.Lists.{all_append}
 use Rattle.base.proofs.Threes.{threes_join, tests_join}
+use Rattle.std.specs.Prelude.{Option, Some, None}
 use Rattle.book.specs.Numbers.{well_formed, variables_of, formula_of}
 use Rattle.run.specs.Trail.{Entry, is_true}
 use Rattle.run.specs.Run.{in_conflict}
@@ -18,8 +19,6 @@ use Rattle.layout.specs.Layout.{held}
 use Rattle.validation.specs.Validation.{passes}
 use Rattle.rating.specs.Pricing.{max_lines, literal_of, line_of, lines_of, is_kind, of_kind, are_lines, line_within, list_within, priced_by, open_lines, one_if_open, offered, rates_within, premium_answer, line_open}
 use Rattle.rating.specs.Statement.{with_open}
-use Rattle.rating.specs.declared.Priced.{Priced}
-use Rattle.rating.specs.declared.Priced.TheVariants.{At, Beyond}
 use Rattle.rating.specs.declared.RateLine.{RateLine}
 use Rattle.rating.proofs.PricingLaws.{priced_append, unmet, open_first}
 use Rattle.rating.proofs.Refusals.{said, state, open_count, said_is}
@@ -57,25 +56,25 @@ module _ (book session : List ℕ) (base : ℤ) (front back : List ℤ) (literal
     unfolding priced_by open_lines
     unmet_line unmet-literal =
         let same_state : state book session base whole ≡ state book session base (front ++ back)
-        = ap (priced_by (is_true trail) (At base)) joined
-        ∙ priced_append (is_true trail) (lines_of front) (line ∷ lines_of back) (At base)
-        ∙ passed-by (priced_by (is_true trail) (At base) (lines_of front))
-        ∙ sym (priced_append (is_true trail) (lines_of front) (lines_of back) (At base))
-        ∙ ap (priced_by (is_true trail) (At base)) (sym without) in
+        = ap (priced_by (is_true trail) (Some base)) joined
+        ∙ priced_append (is_true trail) (lines_of front) (line ∷ lines_of back) (Some base)
+        ∙ passed-by (priced_by (is_true trail) (Some base) (lines_of front))
+        ∙ sym (priced_append (is_true trail) (lines_of front) (lines_of back) (Some base))
+        ∙ ap (priced_by (is_true trail) (Some base)) (sym without) in
         let more : open_count book session whole ≡ one_if_open (is_true trail) (literal_of literal) + open_count book session (front ++ back)
         = omega (arith, ap (open_lines (is_true trail)) joined, ap (open_lines (is_true trail)) without, count_append (line_open (is_true trail)) (lines_of front) (line ∷ lines_of back), count_append (line_open (is_true trail)) (lines_of front) (lines_of back), open_first (is_true trail) line (lines_of back)) in
         said_is book session base whole
         ∙ rw (same_range, same_state, more, said_is book session base (front ++ back)) (go (well_formed book) (passes (formula_of book) session) (in_conflict (held (formula_of book) session)) (rates_within book base (front ++ back)) (state book session base (front ++ back)))
       where
-        passed-by : (s : Priced) → priced_by (is_true trail) s (line ∷ lines_of back) ≡ priced_by (is_true trail) s (lines_of back)
-        passed-by s = ap (λ (now : Priced). priced_by (is_true trail) now (lines_of back)) (unmet (is_true trail) s line unmet-literal)
+        passed-by : (s : Option ℤ) → priced_by (is_true trail) s (line ∷ lines_of back) ≡ priced_by (is_true trail) s (lines_of back)
+        passed-by s = ap (λ (now : Option ℤ). priced_by (is_true trail) now (lines_of back)) (unmet (is_true trail) s line unmet-literal)
 
-        go : (w p c r : Bool) (s : Priced)
+        go : (w p c r : Bool) (s : Option ℤ)
             → said w p c r (offered (one_if_open (is_true trail) (literal_of literal) + open_count book session (front ++ back)) s)
             ≡ with_open (one_if_open (is_true trail) (literal_of literal)) (said w p c r (offered (open_count book session (front ++ back)) s))
         go false p c r s = refl
         go true false c r s = refl
         go true true true r s = refl
         go true true false false s = refl
-        go true true false true (At x) = refl
-        go true true false true Beyond = refl
+        go true true false true (Some x) = refl
+        go true true false true None = refl

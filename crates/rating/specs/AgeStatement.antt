@@ -1,5 +1,5 @@
 -- What the theorems on premiums by age say: which refusal comes when, and which table changes nothing.
-use Rattle.std.specs.Prelude.{ℕ, Bool, true, false, ◌&&◌, List, [], ◌∷◌, ◌↔◌, ◌⊎◌, ◌≡◌, leb, ℤ}
+use Rattle.std.specs.Prelude.{ℕ, Bool, true, false, ◌&&◌, List, [], ◌∷◌, ◌↔◌, ◌⊎◌, ◌≡◌, leb, ℤ, Result, Err}
 use Rattle.bands.specs.Bands.{max_age, bands_of, table_within, factor_at}
 use Rattle.bands.specs.Statement.{GoodTable, LowestFault}
 use Rattle.book.specs.Numbers.{formula_of}
@@ -9,8 +9,10 @@ use Rattle.layout.specs.Layout.{held}
 use Rattle.rating.specs.Pricing.{lines_of, rates_within}
 use Rattle.rating.specs.Ages.{scaled, age_answer}
 use Rattle.rating.specs.Statement.{GoesBeyond, Passes, RefusedEarly}
+use Rattle.refusals.specs.declared.Refusal.{Refusal}
+use Rattle.refusals.specs.declared.Refusal.TheVariants as refusal
+use Rattle.refusals.specs.Refusals.{number_of}
 use Rattle.rating.specs.declared.Premium.{Premium}
-use Rattle.rating.specs.declared.Premium.TheVariants.{Refused}
 
 -- One band for every age, with the factor 1,000.
 abbrev pub neutral : List ℕ
@@ -28,7 +30,7 @@ module _ (book session : List ℕ) (base : ℤ) (table : List ℕ) (age : ℕ) (
   abbrev run : Run
   run = held (formula_of book) session
 
-  abbrev answer : Premium
+  abbrev answer : Result Premium Refusal
   answer = age_answer book session base table age numbers
 
   abbrev within : Bool
@@ -37,9 +39,10 @@ module _ (book session : List ℕ) (base : ℤ) (table : List ℕ) (age : ℕ) (
   -- Each refusal number exactly where it is due: 11, 12, 14, 19, then 25 or 26, then 20.
   pub record AgeRefusedWhere : Type 0 where
     pub early : RefusedEarly book session answer
-    pub range : (answer ≡ Refused 19) ↔ (Passes book session × (in_conflict run ≡ false) × (within ≡ false))
-    pub in_none : (answer ≡ Refused 25) ↔ (Passes book session × (in_conflict run ≡ false) × (within ≡ true) × ((lowest : ℕ) × LowestFault table 25 lowest))
-    pub in_several : (answer ≡ Refused 26) ↔ (Passes book session × (in_conflict run ≡ false) × (within ≡ true) × ((lowest : ℕ) × LowestFault table 26 lowest))
-    pub limit : (answer ≡ Refused 20)
+    pub range : (answer ≡ Err refusal.PriceInput) ↔ (Passes book session × (in_conflict run ≡ false) × (within ≡ false))
+    pub in_none : (answer ≡ Err refusal.AgeGap) ↔ (Passes book session × (in_conflict run ≡ false) × (within ≡ true) × ((lowest : ℕ) × LowestFault table 25 lowest))
+    pub in_several : (answer ≡ Err refusal.AgeOverlap) ↔ (Passes book session × (in_conflict run ≡ false) × (within ≡ true) × ((lowest : ℕ) × LowestFault table 26 lowest))
+    pub limit : (answer ≡ Err refusal.RunningAmount)
         ↔ (Passes book session × (in_conflict run ≡ false) × (within ≡ true) × (GoodTable table × GoesBeyond (is_true run.trail) (age_base base table age) (lines_of numbers)))
-    pub no_other : (n : ℕ) → answer ≡ Refused n → (n ≡ 11) ⊎ (n ≡ 12) ⊎ (n ≡ 14) ⊎ (n ≡ 19) ⊎ (n ≡ 20) ⊎ (n ≡ 25) ⊎ (n ≡ 26)
+    pub no_other : (r : Refusal) → answer ≡ Err r
+        → (number_of r ≡ 11) ⊎ (number_of r ≡ 12) ⊎ (number_of r ≡ 14) ⊎ (number_of r ≡ 19) ⊎ (number_of r ≡ 20) ⊎ (number_of r ≡ 25) ⊎ (number_of r ≡ 26)

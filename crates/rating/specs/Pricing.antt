@@ -1,5 +1,5 @@
 -- Request K1, premium in cents from a settled session: the rate list, how its lines change the running amount, and what a call that prices answers.
-use Rattle.std.specs.Prelude.{ℕ, zero, suc, ◌+◌, ◌/◌, Bool, false, cond, not, ◌&&◌, ◌||◌, List, [], ◌∷◌, leb, length, ℤ, pos, negsuc, neg_ℤ, nat_abs, ◌+ℤ◌, ◌*ℤ◌}
+use Rattle.std.specs.Prelude.{ℕ, zero, suc, ◌+◌, ◌/◌, Bool, false, cond, not, ◌&&◌, ◌||◌, List, [], ◌∷◌, leb, length, Result, Ok, Err, Option, Some, None, ℤ, pos, negsuc, neg_ℤ, nat_abs, ◌+ℤ◌, ◌*ℤ◌}
 use Rattle.base.specs.Lists.{all, keep, by_three, all_threes}
 use Rattle.book.specs.Formula.{literal_within}
 use Rattle.book.specs.Numbers.{variables_of, formula_of}
@@ -7,14 +7,13 @@ use Rattle.run.specs.Trail.{opposite, is_true}
 use Rattle.run.specs.Run.{Run, in_conflict}
 use Rattle.layout.specs.Layout.{held}
 use Rattle.validation.specs.Validation.{call_refusal}
-use Rattle.session.specs.Outcomes.{Outcome, refused, accepted, outcome}
+use Rattle.refusals.specs.declared.Refusal.{Refusal}
+use Rattle.refusals.specs.declared.Refusal.TheVariants as refusal
+use Rattle.refusals.specs.Refusals.{outcome}
 use Rattle.rating.specs.declared.Change.{Change}
 use Rattle.rating.specs.declared.Change.TheVariants.{Amount, Thousandths}
 use Rattle.rating.specs.declared.RateLine.{RateLine}
-use Rattle.rating.specs.declared.Priced.{Priced}
-use Rattle.rating.specs.declared.Priced.TheVariants.{At, Beyond}
 use Rattle.rating.specs.declared.Premium.{Premium}
-use Rattle.rating.specs.declared.Premium.TheVariants.{Of, Refused}
 
 -- The limits: lines, cents of an amount, thousandths of a change, cents of the base, and cents of the running amount.
 abbrev pub max_lines : ℕ
@@ -86,15 +85,15 @@ applied running (Amount cents) = running +ℤ cents
 applied running (Thousandths part) = running +ℤ rounded (running *ℤ part)
 
 -- where it is beyond the limit after that line, there is no amount any more
-unfoldable pub limited : ℤ → Priced
-limited running = cond (leb (nat_abs running) max_running) (At running) Beyond
+unfoldable pub limited : ℤ → Option ℤ
+limited running = cond (leb (nat_abs running) max_running) (Some running) None
 
 -- Lines apply in list order where their literal is true.
-unfoldable pub stepped : (ℕ → Bool) → Priced → RateLine → Priced
-stepped holds Beyond line = Beyond
-stepped holds (At running) line = cond (holds line.literal) (limited (applied running line.change)) (At running)
+unfoldable pub stepped : (ℕ → Bool) → Option ℤ → RateLine → Option ℤ
+stepped holds None line = None
+stepped holds (Some running) line = cond (holds line.literal) (limited (applied running line.change)) (Some running)
 
-unfoldable pub priced_by : (ℕ → Bool) → Priced → List RateLine → Priced
+unfoldable pub priced_by : (ℕ → Bool) → Option ℤ → List RateLine → Option ℤ
 priced_by holds state [] = state
 priced_by holds state (line ∷ lines) = priced_by holds (stepped holds state line) lines
 
@@ -112,14 +111,14 @@ open_lines holds lines = length (keep (line_open holds) lines)
 abbrev pub one_if_open : (ℕ → Bool) → ℕ → ℕ
 one_if_open holds l = cond (is_open holds l) 1 0
 
--- The answer: the refusal number; 20 where the running amount went beyond its limit; else the final amount and the number of open lines.
-abbrev pub offered : ℕ → Priced → Premium
-offered count (At amount) = Of amount count
-offered count Beyond = Refused 20
+-- The answer: the refusal; 20 where the running amount went beyond its limit; else the final amount and the number of open lines.
+abbrev pub offered : ℕ → Option ℤ → Result Premium Refusal
+offered count (Some amount) = Ok (record { amount = amount; open_lines = count })
+offered count None = Err refusal.RunningAmount
 
-abbrev pub premium_of : ℤ → List RateLine → Outcome Run → Premium
-premium_of start lines (refused number) = Refused number
-premium_of start lines (accepted run) = offered (open_lines (is_true run.trail) lines) (priced_by (is_true run.trail) (At start) lines)
+abbrev pub premium_of : ℤ → List RateLine → Result Run Refusal → Result Premium Refusal
+premium_of start lines (Err refusal) = Err refusal
+premium_of start lines (Ok run) = offered (open_lines (is_true run.trail) lines) (priced_by (is_true run.trail) (Some start) lines)
 
 -- The base and the whole list are within their ranges, on a book.
 abbrev pub rates_within : List ℕ → ℤ → List ℤ → Bool
@@ -134,5 +133,5 @@ module _ (book session : List ℕ) (base : ℤ) (numbers : List ℤ) where
   unfoldable pub price_refusal : ℕ
   price_refusal = call_refusal book session (run_refusal (rates_within book base numbers))
 
-  unfoldable pub premium_answer : Premium
+  unfoldable pub premium_answer : Result Premium Refusal
   premium_answer = premium_of base (lines_of numbers) (outcome price_refusal (held (formula_of book) session))

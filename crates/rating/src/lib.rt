@@ -5,11 +5,11 @@ mod cents;
 mod lines;
 mod running;
 
-ghost use Rattle.std.specs.Prelude.{◌≡◌, true, ◌≤◌, nat_abs};
+ghost use Rattle.std.specs.Prelude.{◌≡◌, true, ◌≤◌, nat_abs, Ok};
 ghost use Rattle.book.specs.Numbers.{variables_of, formula_of};
 ghost use Rattle.layout.specs.Layout.{held};
 ghost use Rattle.validation.specs.Validation.{call_refusal, read_refusal};
-ghost use Rattle.session.specs.Outcomes.{accepted};
+ghost use Rattle.refusals.specs.Refusals.{checked};
 ghost use Rattle.bands.specs.Bands.{max_factor};
 ghost use Rattle.rating.specs.Pricing.{max_running, base_within, list_within, lines_of, run_refusal, price_refusal, premium_of, premium_answer};
 ghost use Rattle.rating.specs.Ages as ages;
@@ -17,6 +17,7 @@ ghost use Rattle.rating.specs.Ages.{age_answer};
 
 use cents::to_cents;
 use lines::list_within;
+use refusals::Refusal;
 use running::{apply_all, open_lines};
 use signed::{product, size_of};
 
@@ -37,38 +38,22 @@ struct RateLine {
     change: Change,
 }
 
-// The running amount in cents, or that it went beyond its limit after a line.
-#[derive(Clone, Copy)]
-enum Priced {
-    At(i64),
-    Beyond,
+/// What a call that prices answers: the final amount in cents and the number of lines whose variable is open.
+#[derive(Clone, Copy, Debug, PartialEq, Eq)]
+pub struct Premium {
+    pub amount: i64,
+    pub open_lines: u32,
 }
 
-// What a call that prices answers: the final amount in cents and the number of lines whose variable is open, or the refusal number.
-#[derive(Clone, Copy)]
-pub enum Premium {
-    Of { amount: i64, open_lines: u32 },
-    Refused(u32),
-}
-
-// The refusals that come before the base and the lines: 11, 12, and 14 in conflict; 0 where none of them applies.
-fn session_refusal(book: &[u32], session: &[u32]) -> u32
-    ensures { result ≡ call_refusal book.now session.now (run_refusal true) }
+// Refuses what comes before the base and the lines: no book, no session on it, a session in conflict.
+fn check_session(book: &[u32], session: &[u32]) -> Result<(), Refusal>
+    ensures { result ≡ checked (call_refusal book.now session.now (run_refusal true)) }
 {
-    match session::figures(book, session) {
-        session::Shown::Refused(number) => number,
-        session::Shown::Of {
-            decisions: _,
-            backtracks: _,
-            trail: _,
-            conflict,
-        } => {
-            if conflict != 0 {
-                return 14;
-            }
-            0
-        }
+    let shown = session::figures(book, session)?;
+    if shown.conflict != 0 {
+        return Err(Refusal::InConflict);
     }
+    Ok(())
 }
 
 fn base_within(base: i64) -> bool
@@ -80,46 +65,40 @@ fn base_within(base: i64) -> bool
     size_of(base) <= MAX_BASE
 }
 
-// The refusal number of a call that prices, or 0.
-fn price_refusal(book: &[u32], session: &[u32], base: i64, lines: &[i32]) -> u32
-    ensures { result ≡ price_refusal book.now session.now base lines.now }
+// Refuses a call that prices before its first line: 11, 12, 14, then 19 for the base or the list.
+fn check_price(book: &[u32], session: &[u32], base: i64, lines: &[i32]) -> Result<(), Refusal>
+    ensures { result ≡ checked (price_refusal book.now session.now base lines.now) }
 {
-    let refused = session_refusal(book, session);
-    if refused != 0 {
-        return refused;
-    }
+    check_session(book, session)?;
     if !base_within(base) {
-        return 19;
+        return Err(Refusal::PriceInput);
     }
     if !list_within(book::variables(book), lines) {
-        return 19;
+        return Err(Refusal::PriceInput);
     }
-    0
+    Ok(())
 }
 
 // The amount after all lines, from a start on, and the number of open lines.
-fn premium_of(book: &[u32], session: &[u32], start: i64, lines: &[i32]) -> Premium
+fn premium_of(book: &[u32], session: &[u32], start: i64, lines: &[i32]) -> Result<Premium, Refusal>
     requires session_value { (read_refusal book.now session.now ≡ 0) × (list_within (variables_of book.now) lines.now ≡ true) }
     requires start_bound { nat_abs start ≤ max_running }
-    ensures { result ≡ premium_of start (lines_of lines.now) (accepted (held (formula_of book.now) session.now)) }
+    ensures { result ≡ premium_of start (lines_of lines.now) (Ok (held (formula_of book.now) session.now)) }
 {
     match apply_all(book, session, start, lines) {
-        Priced::At(amount) => Premium::Of {
+        Some(amount) => Ok(Premium {
             amount,
             open_lines: open_lines(book, session, lines),
-        },
-        Priced::Beyond => Premium::Refused(20),
+        }),
+        None => Err(Refusal::RunningAmount),
     }
 }
 
-// Prices a session on a book by a base in cents and a rate list, three numbers a line: literal, 0 or 1, amount or thousandths.
-pub fn price(book: &[u32], session: &[u32], base: i64, lines: &[i32]) -> Premium
+/// Prices a session on a book by a base in cents and a rate list, three numbers a line: literal, 0 or 1, amount or thousandths.
+pub fn price(book: &[u32], session: &[u32], base: i64, lines: &[i32]) -> Result<Premium, Refusal>
     ensures { result ≡ premium_answer book.now session.now base lines.now }
 {
-    let refused = price_refusal(book, session, base, lines);
-    if refused != 0 {
-        return Premium::Refused(refused);
-    }
+    check_price(book, session, base, lines)?;
     premium_of(book, session, base, lines)
 }
 
@@ -131,7 +110,7 @@ fn scaled(base: i64, factor: u32) -> i64
     to_cents(product(base, factor as i64))
 }
 
-// Prices as `price` does, from the base on that the table of age bands scales for the customer's age.
+/// Prices as `price` does, from the base on that the table of age bands scales for the customer's age.
 pub fn price_for_age(
     book: &[u32],
     session: &[u32],
@@ -139,15 +118,10 @@ pub fn price_for_age(
     table: &[u32],
     age: u32,
     lines: &[i32],
-) -> Premium
+) -> Result<Premium, Refusal>
     ensures { result ≡ age_answer book.now session.now base table.now age lines.now }
 {
-    let refused = price_refusal(book, session, base, lines);
-    if refused != 0 {
-        return Premium::Refused(refused);
-    }
-    match bands::factor_at(table, age) {
-        bands::Factor::Of(factor) => premium_of(book, session, scaled(base, factor), lines),
-        bands::Factor::Refused(number) => Premium::Refused(number),
-    }
+    check_price(book, session, base, lines)?;
+    let factor = bands::factor_at(table, age)?;
+    premium_of(book, session, scaled(base, factor), lines)
 }

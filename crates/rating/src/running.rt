@@ -1,5 +1,5 @@
 // The running amount: what a line does to it, and all lines in list order; and how many lines are open.
-ghost use Rattle.std.specs.Prelude.{◌≡◌, true, ℕ, ◌≤◌, ℤ, nat_abs};
+ghost use Rattle.std.specs.Prelude.{◌≡◌, true, ℕ, ◌≤◌, ℤ, nat_abs, Some};
 ghost use Rattle.book.specs.Formula.{literal_within};
 ghost use Rattle.book.specs.Numbers.{formula_of, variables_of};
 ghost use Rattle.run.specs.Trail.{is_true};
@@ -8,11 +8,10 @@ ghost use Rattle.layout.specs.Values.{value_in};
 ghost use Rattle.validation.specs.Validation.{read_refusal};
 ghost use Rattle.rating.specs.Pricing as pricing;
 ghost use Rattle.rating.specs.Pricing.{max_running, change_within, list_within, lines_of, stepped, priced_by, open_lines, one_if_open};
-ghost use Rattle.rating.specs.declared.Priced.TheVariants as priced;
 
 use crate::cents::to_cents;
 use crate::lines::line_at;
-use crate::{Change, Priced, RateLine};
+use crate::{Change, RateLine};
 use layout::values::{Value, literal_value};
 use signed::{product, size_of, sum, widened};
 
@@ -30,18 +29,19 @@ fn applied(running: i64, change: Change) -> i64
     }
 }
 
-fn limited(running: i64) -> Priced
+// The running amount, where it is within its limit.
+fn limited(running: i64) -> Option<i64>
     ensures { result ≡ pricing.limited running }
 {
     if size_of(running) > MAX_RUNNING {
-        return Priced::Beyond;
+        return None;
     }
-    Priced::At(running)
+    Some(running)
 }
 
 // The running amount after a line, which applies or does not.
-fn step(state: Priced, line: RateLine, applies: bool) -> Priced
-    requires { ((running : ℤ) → state ≡ priced.At running → nat_abs running ≤ max_running) × (change_within line.change ≡ true) }
+fn step(state: Option<i64>, line: RateLine, applies: bool) -> Option<i64>
+    requires { ((running : ℤ) → state ≡ Some running → nat_abs running ≤ max_running) × (change_within line.change ≡ true) }
     ensures { result ≡ stepped (λ (l : ℕ). applies) state line }
 {
     if !applies {
@@ -49,8 +49,8 @@ fn step(state: Priced, line: RateLine, applies: bool) -> Priced
     }
     let change = line.change;
     match state {
-        Priced::At(running) => limited(applied(running, change)),
-        Priced::Beyond => Priced::Beyond,
+        Some(running) => limited(applied(running, change)),
+        None => None,
     }
 }
 
@@ -87,12 +87,12 @@ fn one_if_open(book: &[u32], session: &[u32], literal: u32) -> u32
 }
 
 // All lines, from a start on.
-pub(crate) fn apply_all(book: &[u32], session: &[u32], start: i64, numbers: &[i32]) -> Priced
+pub(crate) fn apply_all(book: &[u32], session: &[u32], start: i64, numbers: &[i32]) -> Option<i64>
     requires session_value { (read_refusal book.now session.now ≡ 0) × (list_within (variables_of book.now) numbers.now ≡ true) }
     requires start_bound { nat_abs start ≤ max_running }
-    ensures { result ≡ priced_by (is_true (held (formula_of book.now) session.now).trail) (priced.At start) (lines_of numbers.now) }
+    ensures { result ≡ priced_by (is_true (held (formula_of book.now) session.now).trail) (Some start) (lines_of numbers.now) }
 {
-    let mut state = Priced::At(start);
+    let mut state = Some(start);
     let mut at = 0;
     while at + 2 < numbers.len() {
         let line = line_at(numbers, at);

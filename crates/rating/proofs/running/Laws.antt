@@ -1,47 +1,45 @@
 -- What a step and the loops over the lines know.
 use Prim.Native.Nat.{ℕ, ◌+◌, ◌*◌, ◌≤◌, ◌<◌}
-use mathlib.Core.Bool.{Bool, true, false, not}
+use mathlib.Core.Bool.{Bool, true, false}
 use mathlib.Core.List.{List, ◌∷◌}
 use mathlib.Core.Path.{◌≡◌, refl, sym, ap, ◌∙◌}
 use native.Mathlib.Omega.{arith}
-use borrow.Author.Tests.{not-true, not-false}
 use lib.IntN.{ℤ}
 use lib.ListN.{length, drop}
 use Rattle.base.specs.Lists.{all}
 use Rattle.base.proofs.Bools.{and_parts}
 use Rattle.base.proofs.Threes.{threes_ended, ranged_short, CountedBefore, counted_none, counted_more, counted_all}
+use Rattle.std.specs.Prelude.{Option, Some, None}
 use Rattle.book.specs.Formula.{literal_within}
 use Rattle.run.specs.Trail.{Entry, is_true}
 use Rattle.layout.specs.Values.{value_in}
 use Rattle.layout.specs.declared.values.Value.TheVariants.{Open, True, False}
 use Rattle.layout.proofs.ValueLaws.{value_open, value_true, value_false}
 use Rattle.rating.specs.Pricing.{max_lines, line_of, lines_of, of_kind, are_lines, change_within, line_within, list_within, applied, limited, stepped, priced_by, open_lines, one_if_open, line_open}
-use Rattle.rating.specs.declared.Priced.{Priced}
-use Rattle.rating.specs.declared.Priced.TheVariants.{At, Beyond}
 use Rattle.rating.specs.declared.RateLine.{RateLine}
 use Rattle.rating.proofs.PricingLaws.{Small, stepped_small, list_parts, line_parts}
 
 -- a line that is told to apply, or not
 module _ (applies : Bool) where
-  pub step_passed : not applies ≡ true → (state : Priced) (line : RateLine) → state ≡ stepped (λ (l : ℕ). applies) state line
+  pub step_passed : applies ≡ false → (state : Option ℤ) (line : RateLine) → state ≡ stepped (λ (l : ℕ). applies) state line
   unfolding stepped
-  step_passed e (At running) line = rw (not-true applies e)
-  step_passed e Beyond line = refl
+  step_passed e (Some running) line = rw e
+  step_passed e None line = refl
 
-  pub step_applied : not applies ≡ false → (state : Priced) (line : RateLine) (running : ℤ) → state ≡ At running
+  pub step_applied : applies ≡ true → (state : Option ℤ) (line : RateLine) (running : ℤ) → state ≡ Some running
       → limited (applied running line.change) ≡ stepped (λ (l : ℕ). applies) state line
   unfolding stepped
-  step_applied e state line running is = rw (is, not-false applies e)
+  step_applied e state line running is = rw (is, e)
 
-  pub step_beyond : (state : Priced) (line : RateLine) → state ≡ Beyond → Beyond ≡ stepped (λ (l : ℕ). applies) state line
+  pub step_beyond : (state : Option ℤ) (line : RateLine) → state ≡ None → None ≡ stepped (λ (l : ℕ). applies) state line
   unfolding stepped
   step_beyond state line is = rw is
 
   -- only what holds of its own literal counts
-  step_told : (holds : ℕ → Bool) (state : Priced) (line : RateLine) → applies ≡ holds line.literal → stepped (λ (l : ℕ). applies) state line ≡ stepped holds state line
+  step_told : (holds : ℕ → Bool) (state : Option ℤ) (line : RateLine) → applies ≡ holds line.literal → stepped (λ (l : ℕ). applies) state line ≡ stepped holds state line
   unfolding stepped
-  step_told holds (At running) line e = rw e
-  step_told holds Beyond line e = refl
+  step_told holds (Some running) line e = rw e
+  step_told holds None line e = refl
 
 -- a variable is open where the value of its literal is
 module _ (trail : List Entry) (l : ℕ) where
@@ -70,8 +68,8 @@ module _ (v : ℕ) (numbers : List ℤ) where
     read_parts = line_parts v line ranged_parts.0
 
   -- What the loop that applies them knows at a place: the state there, a running amount within its limit, comes to the same as the start at the first line.
-  module _ (holds : ℕ → Bool) (start : Priced) where
-    pub record AppliedBefore (state : Priced) (at : ℕ) : Type 0 where
+  module _ (holds : ℕ → Bool) (start : Option ℤ) where
+    pub record AppliedBefore (state : Option ℤ) (at : ℕ) : Type 0 where
       pub inside : at ≤ length numbers
       pub ranged : Ranged at
       pub small : Small state
@@ -80,9 +78,9 @@ module _ (v : ℕ) (numbers : List ℤ) where
     pub applied_none : list_within v numbers ≡ true → Small start → AppliedBefore start 0
     applied_none e s = record { inside = omega arith; ranged = (list_parts v numbers e).2; small = s; rest = refl }
 
-    module _ (state : Priced) (at : ℕ) (a : AppliedBefore state at) where
+    module _ (state : Option ℤ) (at : ℕ) (a : AppliedBefore state at) where
       pub applied_more : at + 2 < length numbers → (line : RateLine) → lines_of (drop at numbers) ≡ line ∷ lines_of (drop (at + 3) numbers)
-          → (applies : Bool) → applies ≡ holds line.literal → (next : Priced) → next ≡ stepped (λ (l : ℕ). applies) state line → AppliedBefore next (at + 3)
+          → (applies : Bool) → applies ≡ holds line.literal → (next : Option ℤ) → next ≡ stepped (λ (l : ℕ). applies) state line → AppliedBefore next (at + 3)
       unfolding priced_by
       applied_more h line is applies told next e =
           let by-holds : next ≡ stepped holds state line = e ∙ step_told applies holds state line told in

@@ -8,8 +8,8 @@ use Rattle.book.specs.Formula.{literal_within}
 use Rattle.book.specs.Numbers.{variables_of, formula_of}
 use Rattle.run.specs.Trail.{is_true}
 use Rattle.layout.specs.Layout.{held}
+use Rattle.std.specs.Prelude.{Some}
 use Rattle.rating.specs.Pricing.{lines_of, change_within, priced_by}
-use Rattle.rating.specs.declared.Priced.TheVariants.{At}
 use Rattle.rating.proofs.PricingLaws.{at_small}
 use Rattle.rating.proofs.running.Laws.{applied_none, read_parts, applied_more, applied_all}
 use Rattle.rating.proofs.running.apply_all.Goals as goal
@@ -38,4 +38,4 @@ pub returns : goal.returns
 returns c =
     let trail = (held (formula_of c.args.book.now) c.args.session.now).trail in
     applied_all (variables_of c.args.book.now) c.args.numbers.now _ _ c.loop-at.state c.loop-at.at c.loop-at.invariant (search rules)
-    ∙ ap (λ (x : ℤ). priced_by (is_true trail) (At x) (lines_of c.args.numbers.now)) (to_z-of_z w64 c.args.start c.ranges.start)
+    ∙ ap (λ (x : ℤ). priced_by (is_true trail) (Some x) (lines_of c.args.numbers.now)) (to_z-of_z w64 c.args.start c.ranges.start)
