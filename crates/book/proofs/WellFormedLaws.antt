@@ -2,17 +2,17 @@
 use Prim.Native.Nat.{ℕ, ◌+◌, ◌≤◌, ◌<◌}
 use mathlib.Core.Bool.{Bool, true, false, ◌&&◌}
 use mathlib.Core.List.{List}
-use mathlib.Core.Path.{◌≡◌, refl, ◌∙◌}
+use mathlib.Core.Path.{◌≡◌, refl}
 use native.Mathlib.Omega.{arith}
 use borrow.Author.Tests.{leb-true, le-leb, eqb-true, eq-eqb}
 use lib.Dec.{leb, eqb}
 use lib.ListN.{length, take}
-use Rattle.base.specs.Lists.{all, flat}
+use Rattle.base.specs.Lists.{all}
 use Rattle.base.proofs.Bools.{and_five, and_last, refuted}
 use Rattle.book.specs.Formula.{sound_clause, sound, max_clauses, max_literals, max_variables}
 use Rattle.book.specs.Numbers.{variables_of, clauses_of, literals_of, start_of, clause_at, clauses_from, formula_of, numbers_of, rising, well_formed}
 use Rattle.book.specs.Inner.Form.{Parted}
-use Rattle.book.proofs.SoundLaws.{formula_parts, clauses_decide_sound, clause_of_sound}
+use Rattle.book.proofs.SoundLaws.{formula_parts, clause_of_sound}
 use Rattle.book.proofs.PartLaws.{clauses_counted, clause_of_formula, length_literals, numbers_parted}
 
 -- V, C and L within their limits
@@ -33,17 +33,6 @@ module _ (numbers : List ℕ) where
       (eq-eqb _ _ parted.first)
       (eq-eqb _ _ parted.last)
       parted.rises
-
-  -- and within the limits the clauses
-  pub clauses_decide : Parted numbers → Limited numbers
-      → well_formed numbers ≡ all (sound_clause (variables_of numbers)) (clauses_from numbers 0 (clauses_of numbers))
-  clauses_decide parted limited =
-      let few : length (clauses_from numbers 0 (clauses_of numbers)) ≤ max_clauses =
-      rw (clauses_counted numbers) limited.clauses in
-      let short : length (flat (clauses_from numbers 0 (clauses_of numbers))) ≤ max_literals =
-      rw (length_literals numbers parted) limited.literals in
-      formula_decides parted
-      ∙ clauses_decide_sound (formula_of numbers) limited.some_variables limited.variables few short
 
   module _ (well : well_formed numbers ≡ true) where
     parts : (leb (clauses_of numbers + literals_of numbers + 4) (length numbers) ≡ true)
