@@ -11,7 +11,7 @@ use Rattle.capi.proofs.premium_code.Goals as goal
 pub returns-in-Ok : goal.returns-in-Ok
 returns-in-Ok c =
     let is = sym c.in-Ok.is in
-    record { value = ap premium_code is; amount_after = to_z-of_z w64 c.in-Ok.premium.amount (search rules) ∙ ap (λ (r : Result Premium Refusal). amount_after r c.args.amount.now) is }
+    record { value = c.from.ensures ∙ ap premium_code is; amount_after = to_z-of_z w64 c.in-Ok.premium.amount (search rules) ∙ ap (λ (r : Result Premium Refusal). amount_after r c.args.amount.now) is }
 
 pub returns-in-Err : goal.returns-in-Err
 returns-in-Err c =

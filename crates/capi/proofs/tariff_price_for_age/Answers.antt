@@ -1,3 +1,5 @@
+use Rattle.std.specs.Prelude.{Result}
+use Rattle.refusals.specs.declared.Refusal.{Refusal}
 use mathlib.Core.Path.{◌≡◌, ap, ◌∙◌}
 use lib.IntN.{ℤ}
 use mir.Syntax.{w64}
@@ -11,4 +13,4 @@ pub returns : goal.returns
 returns c =
     let told : c.price_for_age.result ≡ age_answer c.args.book.now c.args.session.now c.args.base c.args.table.now c.args.age c.args.lines.now = c.price_for_age.ensures
     ∙ ap (λ (x : ℤ). age_answer c.args.book.now c.args.session.now x c.args.table.now c.args.age c.args.lines.now) (to_z-of_z w64 c.args.base c.ranges.base) in
-    record { value = c.premium_code.ensures.value ∙ ap premium_code (told); amount_after = c.premium_code.ensures.amount_after ∙ ap (λ (p : Premium). amount_after p c.args.amount.now) (told) }
+    record { value = c.premium_code.ensures.value ∙ ap premium_code (told); amount_after = c.premium_code.ensures.amount_after ∙ ap (λ (p : Result Premium Refusal). amount_after p c.args.amount.now) (told) }
