@@ -4,7 +4,7 @@ ghost use Rattle.book.specs.Numbers.{clauses_of, clause_at, formula_of, well_for
 ghost use Rattle.run.specs.Ceiling.{clause_worst};
 ghost use Rattle.run.specs.Ceiling as ceilings;
 
-use crate::values::clause_start;
+use crate::values::clause;
 
 // The ceiling of clause c, from 0: 2 × n − 3 of n ≥ 2 literals, else 0.
 fn clause_worst(book: &[u32], c: usize) -> usize
@@ -12,7 +12,7 @@ fn clause_worst(book: &[u32], c: usize) -> usize
     requires c_bound { c < clauses_of book.now }
     ensures { result ≡ clause_worst (clause_at book.now c) }
 {
-    let literals = clause_start(book, c + 1) - clause_start(book, c);
+    let literals = clause(book, c).len();
     if literals < 2 {
         return 0;
     }
@@ -24,12 +24,9 @@ pub fn worst(book: &[u32]) -> u32
     requires { well_formed book.now ≡ true }
     ensures { result ≡ ceilings.worst (formula_of book.now) }
 {
-    let clauses = book::clauses(book);
     let mut sum = 0;
-    let mut c = 0;
-    while c < clauses {
+    for c in 0..book::clauses(book) {
         sum += clause_worst(book, c);
-        c += 1;
     }
     sum as u32
 }

@@ -3,7 +3,6 @@ ghost use Rattle.std.specs.Prelude.{◌≡◌, ◌≤◌};
 ghost use Rattle.book.specs.Formula.{max_variables, max_clauses};
 ghost use Rattle.layout.specs.Layout.{levels_at, values_at, watches_at, pointers_at, checks_at, heads_at, links_at, required_length, value_slot, watch_slot, head_slot, link_slot, clause_of_node};
 
-use crate::values::wide;
 use book::limits::{MAX_CLAUSES, MAX_VARIABLES};
 
 // The numbers of the header.
@@ -74,7 +73,7 @@ pub fn value_slot(variables: usize, literal: u32) -> usize
     requires { (variables ≤ max_variables) × (2 ≤ literal) }
     ensures { result ≡ value_slot variables literal }
 {
-    values_at(variables) + (wide(literal >> 1) - 1)
+    values_at(variables) + ((literal >> 1) as usize - 1)
 }
 
 // The place of a node's watch.
@@ -82,7 +81,7 @@ pub fn watch_slot(variables: usize, node: u32) -> usize
     requires { (variables ≤ max_variables) × (1 ≤ node) }
     ensures { result ≡ watch_slot variables node }
 {
-    watches_at(variables) + (wide(node) - 1)
+    watches_at(variables) + (node as usize - 1)
 }
 
 // The clause that a node is of.
@@ -90,7 +89,7 @@ pub fn clause_of_node(node: u32) -> usize
     requires { 1 ≤ node }
     ensures { result ≡ clause_of_node node }
 {
-    (wide(node) - 1) >> 1
+    (node as usize - 1) >> 1
 }
 
 // The place of the head of a literal's list.
@@ -98,7 +97,7 @@ pub fn head_slot(variables: usize, clauses: usize, literal: u32) -> usize
     requires { (variables ≤ max_variables) × (clauses ≤ max_clauses) × (2 ≤ literal) }
     ensures { result ≡ head_slot variables clauses literal }
 {
-    heads_at(variables, clauses) + (wide(literal) - 2)
+    heads_at(variables, clauses) + (literal as usize - 2)
 }
 
 // The place of a node's link.
@@ -106,7 +105,7 @@ pub fn link_slot(variables: usize, clauses: usize, node: u32) -> usize
     requires { (variables ≤ max_variables) × (clauses ≤ max_clauses) × (1 ≤ node) }
     ensures { result ≡ link_slot variables clauses node }
 {
-    links_at(variables, clauses) + (wide(node) - 1)
+    links_at(variables, clauses) + (node as usize - 1)
 }
 
 // The required length (the paper's need).

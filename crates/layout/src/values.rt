@@ -58,7 +58,7 @@ pub fn value_of(values: &[u32], literal: u32) -> Value
     requires { (2 ≤ literal) × (variable_of literal ≤ length values.now) }
     ensures { result ≡ value_read (get_or values.now (variable_of literal - 1) 0) literal }
 {
-    value_by(values[wide(literal >> 1) - 1], literal)
+    value_by(values[(literal >> 1) as usize - 1], literal)
 }
 
 // The value of a literal, from the numbers of a session.
@@ -86,7 +86,7 @@ pub fn clause_start(book: &[u32], c: usize) -> usize
     requires c_bound { c ≤ clauses_of book.now }
     ensures { result ≡ clause_start book.now c }
 {
-    wide(book[1]) + 4 + wide(book[3 + c])
+    book[1] as usize + 4 + book[3 + c] as usize
 }
 
 // The literals of clause c, from 0.

@@ -1,39 +1,17 @@
--- The ceiling of a clause, by where it begins and ends in the book numbers, and W, as the loop over the clauses meets it.
-use Prim.Native.Nat.{ℕ, suc, ◌+◌, ◌*◌, ◌-◌, ◌≤◌, ◌<◌}
+-- W, as the loop over the clauses meets it.
+use Prim.Native.Nat.{ℕ, ◌+◌, ◌≤◌, ◌<◌}
 use mathlib.Core.Path.{◌≡◌, sym, ap, ◌∙◌}
 use mathlib.Core.Bool.{true}
 use mathlib.Core.List.{List, [], map}
 use native.Mathlib.Omega.{arith}
-use native.Mathlib.Numerals.{add-one}
-use borrow.Author.Tests.{le-leb, lt-leb}
 use lib.ListN.{length, get_or, length-map, get_or-map}
 use Rattle.base.proofs.Sums.{Summed, summed_none, summed_more, summed_all}
-use Rattle.book.specs.Numbers.{clauses_of, clause_start, clause_at, formula_of, well_formed}
-use Rattle.book.proofs.PartLaws.{clauses_counted, clause_of_formula, clause_inside, length_clause}
-use Rattle.book.proofs.WellFormedLaws.{well_formed_parted, well_formed_sound}
+use Rattle.book.specs.Numbers.{clauses_of, clause_at, formula_of, well_formed}
+use Rattle.book.proofs.PartLaws.{clauses_counted, clause_of_formula}
+use Rattle.book.proofs.WellFormedLaws.{well_formed_sound}
 use Rattle.run.specs.Ceiling.{clause_worst, worst}
 use Rattle.run.proofs.Worst.{worst_within}
 
-module _ (book : List ℕ) (well : well_formed book ≡ true) where
-  -- a clause that begins at s and ends at e
-  module _ (c s e : ℕ) (h : c < clauses_of book) (begin : s ≡ clause_start book c) (end : e ≡ clause_start book (c + 1)) where
-    pub rises : s ≤ e
-    rises = (clause_inside book (well_formed_parted book well) c s e h begin end).0
-
-    size : length (clause_at book c) ≡ e - s
-    size =
-        let next : clause_start book (c + 1) ≡ clause_start book (suc c) = ap (clause_start book) (add-one c) in
-        length_clause book (well_formed_parted book well) c h ∙ omega arith
-
-    pub unscanned : e - s < 2 → 0 ≡ clause_worst (clause_at book c)
-    unfolding clause_worst
-    unscanned few = rw (size, lt-leb 2 (e - s) few)
-
-    pub scanned : 2 ≤ e - s → 2 * (e - s) - 3 ≡ clause_worst (clause_at book c)
-    unfolding clause_worst
-    scanned many = rw (size, le-leb 2 (e - s) many)
-
--- W, as the loop over the clauses meets it
 module _ (book : List ℕ) where
   -- what the loop knows: `sum` is the sum over the first c clauses
   abbrev pub WorstBefore : ℕ → ℕ → Type 0

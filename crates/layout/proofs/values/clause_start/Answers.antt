@@ -7,10 +7,7 @@ pub bounds-book-1 : goal.bounds-book-1
 bounds-book-1 c = omega (arith, (well_formed_parted _ c.requires.book_value).long)
 
 pub overflow_add-result : goal.overflow_add-result
-overflow_add-result c = omega (arith, c.wide.ensures, well_formed_limited _ c.requires.book_value)
-
-pub overflow_add-c : goal.overflow_add-c
-overflow_add-c c = omega (arith, well_formed_limited _ c.requires.book_value)
+overflow_add-result c = omega (arith, well_formed_limited _ c.requires.book_value)
 
 pub offset_bounds-book-c : goal.offset_bounds-book-c
 offset_bounds-book-c c = omega (arith, well_formed_limited _ c.requires.book_value)
@@ -20,4 +17,4 @@ bounds-book-c c = omega (arith, (well_formed_parted _ c.requires.book_value).lon
 
 pub overflow_add-result-2 : goal.overflow_add-result-2
 overflow_add-result-2 c =
-    omega (arith, c.wide.ensures, c.wide-2.ensures, well_formed_limited _ c.requires.book_value, start_within _ (well_formed_parted _ c.requires.book_value) _ c.requires.c_bound)
+    omega (arith, well_formed_limited _ c.requires.book_value, start_within _ (well_formed_parted _ c.requires.book_value) _ c.requires.c_bound)
