@@ -1,9 +1,12 @@
 use Rattle.std.proofs.Common.{◌≡◌, ◌∙◌, arith}
 use Rattle.std.specs.Prelude.{true, Some, length}
 use Rattle.packed.specs.Packed.{length_within}
-use Rattle.packed.proofs.FormLaws.{length_in}
-use Rattle.packed.proofs.FieldLaws.{number_small, read_closed}
+use Rattle.packed.proofs.FormLaws.{length_in, length_over}
+use Rattle.packed.proofs.FieldLaws.{unread, number_small, read_closed}
 use Rattle.packed.proofs.read_field.Goals as goal
+
+pub returns-then-front-ge-MAX_BYTES : goal.returns-then-front-ge-MAX_BYTES
+returns-then-front-ge-MAX_BYTES c = unread _ (length_over _ (omega (arith, c.in-Some.ensures.cases.1)))
 
 pub closed-requires : goal.closed-requires
 closed-requires c =
