@@ -95,11 +95,7 @@ fn table_within(table: &[u32]) -> bool
     let bands = triples(table);
     table.len() % 3 == 0
         && bands.len() <= MAX_BANDS
-        && bands
-            .iter()
-            .copied()
-            .map(band_of)
-            .all(|band| band_within(band))
+        && bands.iter().copied().map(band_of).all(band_within)
 }
 
 #[tactic(auto, unfolding(crate::specs::Bands::lies_in))]

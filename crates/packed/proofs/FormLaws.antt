@@ -1,9 +1,10 @@
 -- When a field's length is within its limits, and how the refusals of writing come one after the other.
-use Prim.Native.Nat.{ℕ, ◌≤◌}
+use Prim.Native.Nat.{ℕ, ◌≤◌, ◌<◌}
 use mathlib.Core.Bool.{Bool, true, false}
 use mathlib.Core.Path.{◌≡◌, refl, ap}
 use mathlib.Core.List.{List}
-use borrow.Author.Tests.{le-leb, leb-true}
+use native.Mathlib.Omega.{arith}
+use borrow.Author.Tests.{le-leb, lt-leb, leb-true}
 use lib.Dec.{leb}
 use lib.IntN.{ℤ}
 use lib.ListN.{length}
@@ -22,6 +23,10 @@ unfolding length_within
 length_parts bytes e =
     let parts = and_parts (leb 1 bytes) (leb bytes max_bytes) e in
     (leb-true 1 bytes parts.0, leb-true bytes max_bytes parts.1)
+
+pub length_over : (bytes : ℕ) → max_bytes < bytes → length_within bytes ≡ false
+unfolding length_within
+length_over bytes h = rw (le-leb 1 bytes (omega arith), lt-leb bytes max_bytes h)
 
 -- what is refused by no test passes all of them
 pub none_by : (form values room : Bool) → write_refusal form values room ≡ Ok tt → (form ≡ true) × (values ≡ true) × (room ≡ true)

@@ -16,7 +16,7 @@ const OTHER_PLUS: u8 = 15;
 
 // A field has 1 to 7 bytes.
 #[tactic(auto, unfolding(crate::specs::Packed::length_within))]
-pub(crate) fn length_within(bytes: usize) -> bool
+fn length_within(bytes: usize) -> bool
     ensures { result ≡ length_within bytes }
 {
     1 <= bytes && bytes <= MAX_BYTES

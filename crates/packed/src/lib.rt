@@ -7,7 +7,7 @@ mod records;
 ghost use Rattle.std.specs.Prelude.{◌≡◌, length};
 ghost use Rattle.packed.specs.Packed.{field_written, field_after, field_answer, record_written, record_after, record_answer};
 
-use fields::{closed, field_refusal, length_within, number_in, put_field};
+use fields::{closed, field_refusal, number_in, put_field};
 use records::{
     BASE, MAX_MAP, OPEN_LINES, PREMIUM, put_part, record_length, record_refusal, stands, values_of,
 };
@@ -40,16 +40,16 @@ pub fn write_field(value: i64, bytes: usize, out: &mut [u8]) -> Result<u32, Refu
 }
 
 /// Reads a field: all bytes lent.
-#[tactic(auto, using(crate::proofs::FieldLaws::unread, crate::proofs::FieldLaws::read_bad, crate::proofs::FieldLaws::number_small, crate::proofs::FieldLaws::read_closed, crate::proofs::FormLaws::length_parts))]
+#[tactic(auto, using(crate::proofs::FieldLaws::unread, crate::proofs::FieldLaws::read_bad), unfolding(crate::specs::Packed::length_within))]
 pub fn read_field(bytes: &[u8]) -> Result<i64, Refusal>
     ensures { result ≡ field_answer bytes.now }
 {
-    if !length_within(bytes.len()) {
-        return Err(Refusal::PackedForm);
-    }
     let Some((&last, front)) = bytes.split_last() else {
         return Err(Refusal::PackedForm);
     };
+    if front.len() >= MAX_BYTES {
+        return Err(Refusal::PackedForm);
+    }
     let number = number_in(front).ok_or(Refusal::PackedForm)?;
     closed(number, last)
 }
