@@ -1,11 +1,10 @@
 -- Laws of tests: their cases, their parts, and tests joined by `&&` and `||`.
 use Prim.Native.Nat.{ℕ, ◌≤◌, ◌<◌}
-use mathlib.Core.Bool.{Bool, true, false, cond, ◌&&◌, ◌||◌, true≢false, false≢true}
+use mathlib.Core.Bool.{Bool, true, false, ◌&&◌, ◌||◌, true≢false, false≢true}
 use mathlib.Core.Path.{◌≡◌, refl, sym, ◌∙◌}
 use mathlib.Core.Logic.{◌⊎◌, inl, inr}
 use borrow.Author.Tests.{eqb-true, eqb-false, eq-eqb, ne_eqb, ltb-true, ltb-false}
 use lib.Dec.{eqb, ltb}
-use mir.Val.{bool_byte}
 
 -- two numbers are the same or not; one is below the other or not
 pub alike : (a b : ℕ) → (a ≡ b) ⊎ (a ≡ b → ⊥)
@@ -79,7 +78,3 @@ pub refuted : (a : Bool) → (a ≡ true → ⊥) → a ≡ false
 refuted true h = absurd (h refl)
 refuted false h = refl
 
--- a test as a number
-pub byte_is : (t : Bool) → bool_byte t ≡ cond t 1 0
-byte_is true = refl
-byte_is false = refl

@@ -3,7 +3,6 @@ pub mod Bools
 pub mod Lists
 pub mod Members
 pub mod Pigeonhole
-pub mod Same
 pub mod Signed
 pub mod Until
 pub mod Copies

@@ -1,7 +1,6 @@
 -- Laws of numbers in lists: membership, a loop that looks for a number, no number twice, how often a number stands in a list.
-use Prim.Native.Nat.{ℕ, zero, suc, ◌+◌, ◌≤◌, ◌<◌}
+use Prim.Native.Nat.{ℕ, zero, suc, ◌<◌}
 use native.Mathlib.Nat.{le_of_suc-le-suc}
-use native.Mathlib.Numerals.{add-one}
 use native.Mathlib.Omega.{arith}
 use mathlib.Core.Bool.{Bool, true, false, cond, not, ◌&&◌, ◌||◌, or-true, or-false, or_assoc}
 use mathlib.Core.List.{List, [], ◌∷◌, ◌++◌}
@@ -9,8 +8,7 @@ use mathlib.Core.Logic.{◌⊎◌, inl, inr}
 use mathlib.Core.Path.{◌≡◌, refl, sym, ap, ◌∙◌}
 use borrow.Author.Tests.{eqb-true, eqb-false, eq-eqb, ne_eqb, not-true}
 use lib.Dec.{eqb}
-use lib.ListN.{length, get_or, take, drop, take-append-drop, drop_of_length-le}
-use lib.Seq.{drop-cons}
+use lib.ListN.{length, get_or, take, drop, take-append-drop}
 use Rattle.base.specs.Lists.{keep, member, distinct, times}
 use Rattle.base.proofs.Bools.{either, neither_left, never, refuted, eqb_sym, and_parts}
 
@@ -66,29 +64,6 @@ position x (y ∷ xs) h = go (either (eqb x y) (member x xs) h) (position x xs)
 -- what stands among the first i stands in the list
 pub member_front : (x : ℕ) (xs : List ℕ) (i : ℕ) → member x (take i xs) ≡ true → member x xs ≡ true
 member_front x xs i m = rw (← take-append-drop i xs, member-append x (take i xs) (drop i xs), m)
-
--- so does what stands behind them
-pub member_behind : (x : ℕ) (xs : List ℕ) (i : ℕ) → member x (drop i xs) ≡ true → member x xs ≡ true
-member_behind x xs i m = rw (← take-append-drop i xs, member-append x (take i xs) (drop i xs), m) (or-true (member x (take i xs)))
-
--- what a loop over an index i knows that looks for a number: it is none of the first i, so what follows decides
-pub record Unmet (x : ℕ) (xs : List ℕ) (i : ℕ) : Type 0 where
-  pub within : i ≤ length xs
-  pub rest : member x (drop i xs) ≡ member x xs
-
-module _ (x : ℕ) (xs : List ℕ) where
-  pub unmet_none : Unmet x xs 0
-  unmet_none = record { within = omega arith; rest = refl }
-
-  pub unmet_more : (i : ℕ) → Unmet x xs i → i < length xs → (get_or xs i 0 ≡ x → ⊥) → Unmet x xs (i + 1)
-  unfolding member
-  unmet_more i u h n =
-      let here : member x (drop i xs) ≡ (eqb x (get_or xs i 0) || member x (drop (suc i) xs)) = ap (member x) (drop-cons xs i 0 h) in
-      record { within = omega arith; rest = rw (add-one i) (sym (here ∙ rw (ne_eqb x (get_or xs i 0) (λ e. n (sym e)))) ∙ u.rest) }
-
-  pub unmet_all : (i : ℕ) → Unmet x xs i → length xs ≤ i → member x xs ≡ false
-  unfolding member
-  unmet_all i u h = sym u.rest ∙ ap (member x) (drop_of_length-le xs h)
 
 fresh_head : (x : ℕ) (xs : List ℕ) (j : ℕ) → distinct (x ∷ xs) ≡ true → j < length xs → x ≡ get_or xs j 0 → ⊥
 unfolding distinct

@@ -42,10 +42,6 @@ pub word_too_long : (word : List ℕ) → 9 < length word → None ≡ digits_of
 unfolding unsigned
 word_too_long word h = rw (le-leb 1 (length word) (omega arith), lt-leb (length word) 9 h)
 
--- the digits behind the first n bytes of a word
-pub digits_behind : (n : ℕ) (word : List ℕ) (d : Option ℕ) → d ≡ digits_of (take (length word - n) (drop n word)) → d ≡ digits_of (drop n word)
-digits_behind n word d e = rw (take_all (length word - n) (drop n word) (rw (length-drop n word) (omega arith))) at e
-
 -- decimal digits write less than a 1 with as many zeros
 decimal_below : (digits : List ℕ) (n : ℕ) → all is_digit digits ≡ true → decimal n digits < (n + 1) * 10 ^ length digits
 unfolding decimal all

@@ -24,8 +24,5 @@ module _ {P : Type 0} where
   pub says_up_to : (a b : ℕ) → (a ≤ b → P) → (b < a → P → ⊥) → Says (leb a b) P
   says_up_to a b p n = record { yes = λ e. p (leb-true a b e); no = λ e. n (leb-false a b e) }
 
-  pub says_equal : (a b : ℕ) → (a ≡ b → P) → ((a ≡ b → ⊥) → P → ⊥) → Says (eqb a b) P
-  says_equal a b p n = record { yes = λ e. p (eqb-true a b e); no = λ e. n (eqb-false a b e) }
-
   pub says_alike : {Q : Type 0} {r : Bool} → (P → Q) → (Q → P) → Says r P → Says r Q
   says_alike to from s = record { yes = λ e. to (s.yes e); no = λ e q. s.no e (from q) }
