@@ -77,4 +77,3 @@ and_last e pa pb pc pd = rw (pa, pb, pc, pd)
 pub refuted : (a : Bool) → (a ≡ true → ⊥) → a ≡ false
 refuted true h = absurd (h refl)
 refuted false h = refl
-

@@ -7,13 +7,12 @@ use native.Mathlib.Nat.{pow-le-pow_right, pow-suc, mul-le-mul_right}
 use native.Mathlib.Omega.{arith}
 use borrow.Author.Tests.{le-leb, lt-leb, leb-true}
 use lib.Dec.{leb}
-use lib.ListN.{length, take, drop, length-drop}
-use lib.Seq.{take_all}
+use lib.ListN.{length}
 use Rattle.base.specs.Lists.{all, begins}
 use Rattle.base.proofs.Bools.{and_parts}
 use Rattle.book.specs.Text.{decimal, is_digit, unsigned, unsigned_token, token_of}
 use Rattle.book.specs.Answer.{digits_of}
-use Rattle.std.specs.Prelude.{Option, Some, None}
+use Rattle.std.specs.Prelude.{Some, None}
 use Rattle.std.proofs.lemmas.Bool.Decides.{nat_tests}
 
 pub digit_true : (b : ℕ) → 48 ≤ b → b ≤ 57 → is_digit b ≡ true

@@ -5,13 +5,11 @@ use mathlib.Core.List.{List, ◌++◌}
 use native.Mathlib.Omega.{arith}
 use lib.ListN.{drop, length-take}
 use Rattle.std.proofs.lemmas.Result.{err_from_is_err_and}
-use Rattle.refusals.specs.Refusals.{number_of}
 use Rattle.book.proofs.FaultLaws.{too_long}
 use Rattle.book.proofs.ReadLaws.{answer_refused_by, read_refused, book_inside, read_short, read_book}
 use Rattle.book.proofs.read.Goals as goal
 
 pub returns-then-text-gt-MAX_TEXT : goal.returns-then-text-gt-MAX_TEXT
-
 returns-then-text-gt-MAX_TEXT c =
     let a = answer_refused_by _ c.args.out.now _ (too_long c.args.text.now (omega arith)) in
     record { answer = a.0; numbers = a.1 }

@@ -3,7 +3,6 @@ use mathlib.Core.List.{map}
 use lib.ListN.{length-set, length-map}
 use Rattle.std.specs.Prelude.{Err}
 use Rattle.std.proofs.lemmas.Result.{err_from_is_err_and}
-use Rattle.refusals.specs.Refusals.{number_of}
 use Rattle.book.specs.Inner.Parse.{ParsedSays}
 use Rattle.book.specs.Reading.{as_read, read_formula}
 use Rattle.book.proofs.parse.Laws.{text_start, outside_none, outside_variables, outside_clauses, within_limits, header_refused, header_taken, stored_front}
@@ -11,11 +10,9 @@ use Rattle.book.proofs.parse.parse.Goals as goal
 use Rattle.book.proofs.parse.parse.Goals.{then-variables-eq0-via-then-variables-eq0, then-variables-eq0-via-else-variables-eq0+then-variables-gt-MAX_VARIABLES, then-variables-eq0-via-else-variables-eq0+else-variables-gt-MAX_VARIABLES+then-clauses-gt-MAX_CLAUSES}
 
 pub returns-in_default : goal.returns-in_default
-
 returns-in_default c = text_start _ _ c.line_start-at.ensures ∙ c.in_default.ensures
 
 pub returns-then-variables-eq0 : goal.returns-then-variables-eq0
-
 returns-then-variables-eq0 c =
     text_start _ _ c.line_start-at.ensures ∙ c.in-Some.ensures.1 ∙ header_refused _ _ _
     (elim c.then-variables-eq0.branch [
