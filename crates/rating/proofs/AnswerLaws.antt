@@ -1,13 +1,13 @@
 -- The range of the base, what figures tell, the refusals in their order, and what an answer tells.
-use Prim.Native.Nat.{ℕ, ◌≤◌, ◌<◌}
+use Prim.Native.Nat.{ℕ, ◌≤◌}
 use mathlib.Core.Bool.{Bool, true, false, cond, and-false}
 use mathlib.Core.List.{List}
-use mathlib.Core.Path.{◌≡◌, refl, sym, ap, subst, ◌∙◌}
+use mathlib.Core.Path.{◌≡◌, refl, sym, ap, ◌∙◌}
 use native.Mathlib.Omega.{arith}
-use borrow.Author.Tests.{ltb-true, leb-true, eqb-true, ne_eqb}
-use lib.Dec.{T, leb, eqb}
+use borrow.Author.Tests.{le-leb, leb-true, eqb-true, ne_eqb}
+use lib.Dec.{eqb}
 use lib.IntN.{ℤ, pos, negsuc, nat_abs}
-use lib.Signed.{lt_z}
+use lib.Signed.{le_z}
 use Rattle.base.proofs.Bools.{never, and_parts}
 use Rattle.book.specs.Numbers.{well_formed, variables_of, formula_of}
 use Rattle.run.specs.Trail.{is_true}
@@ -27,15 +27,15 @@ use Rattle.session.proofs.PassedLaws.{none_first, own_refusal}
 use Rattle.rating.specs.Pricing.{max_base, max_running, base_within, list_within, lines_of, priced_by, open_lines, offered, premium_of, rates_within, run_refusal, price_refusal, premium_answer}
 use Rattle.rating.specs.declared.Premium.{Premium}
 
-pub base_negative : (x : ℤ) → lt_z x (pos 0) ≡ true → false ≡ base_within x
+pub base_negative : (x : ℤ) → le_z (pos 0) x ≡ false → le_z (pos 0) x ≡ base_within x
 unfolding base_within
-base_negative (pos n) e = let h : n < 0 = ltb-true n 0 e in absurd (omega arith)
+base_negative (pos n) e = absurd (never (le-leb 0 n (omega arith)) e)
 base_negative (negsuc n) e = refl
 
-pub base_natural : (x : ℤ) → lt_z x (pos 0) ≡ false → leb (nat_abs x) max_base ≡ base_within x
+pub base_natural : (x : ℤ) → le_z (pos 0) x ≡ true → le_z x (pos max_base) ≡ base_within x
 unfolding base_within
 base_natural (pos n) e = refl
-base_natural (negsuc n) e = absurd (subst T e tt)
+base_natural (negsuc n) e = absurd (never e refl)
 
 pub base_most : (x : ℤ) → base_within x ≡ true → nat_abs x ≤ max_base
 unfolding base_within

@@ -19,10 +19,9 @@ use cents::to_cents;
 use lines::list_within;
 use refusals::Refusal;
 use running::{apply_all, open_lines};
-use signed::{product, size_of};
 
 // The largest base (`max_base`).
-const MAX_BASE: u64 = 1000000000;
+const MAX_BASE: i64 = 1000000000;
 
 // What a line does to the running amount: it adds an amount in cents, or a change in thousandths of it.
 #[derive(Clone, Copy)]
@@ -59,10 +58,7 @@ fn check_session(book: &[u32], session: &[u32]) -> Result<(), Refusal>
 fn base_within(base: i64) -> bool
     ensures { result ≡ base_within base }
 {
-    if base < 0 {
-        return false;
-    }
-    size_of(base) <= MAX_BASE
+    base >= 0 && base <= MAX_BASE
 }
 
 // Refuses a call that prices before its first line: 11, 12, 14, then 19 for the base or the list.
@@ -107,7 +103,7 @@ fn scaled(base: i64, factor: u32) -> i64
     requires { (base_within base ≡ true) × (factor ≤ max_factor) }
     ensures { result ≡ ages.scaled base factor }
 {
-    to_cents(product(base, factor as i64))
+    to_cents(base * i64::from(factor))
 }
 
 /// Prices as `price` does, from the base on that the table of age bands scales for the customer's age.

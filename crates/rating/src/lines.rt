@@ -4,23 +4,19 @@ ghost use Rattle.book.specs.Formula.{max_variables};
 ghost use Rattle.rating.specs.Pricing.{literal_of, change_of, lines_of, is_kind, change_within, line_within, list_within};
 
 use crate::{Change, RateLine};
-use layout::values::wide;
-use signed::{size_of, widened};
 
 // The limits (`max_lines`, `max_amount`, `max_thousandths`).
 const MAX_LINES: usize = 200;
 
-const MAX_AMOUNT: u64 = 10000000;
+const MAX_AMOUNT: u32 = 10000000;
 
-const MAX_THOUSANDTHS: u64 = 1000;
+const MAX_THOUSANDTHS: u32 = 1000;
 
+#[tactic(auto, unfolding(crate::specs::Pricing::literal_of))]
 fn literal_of(number: i32) -> u32
     ensures { result ≡ literal_of number }
 {
-    if number < 0 {
-        return 0;
-    }
-    number as u32
+    u32::try_from(number).unwrap_or(0)
 }
 
 fn change_of(kind: i32, value: i32) -> Change
@@ -35,10 +31,7 @@ fn change_of(kind: i32, value: i32) -> Change
 fn is_kind(kind: i32) -> bool
     ensures { result ≡ is_kind kind }
 {
-    if kind == 0 {
-        return true;
-    }
-    kind == 1
+    kind == 0 || kind == 1
 }
 
 // The line whose three numbers begin at a place.
@@ -56,8 +49,8 @@ fn change_within(change: Change) -> bool
     ensures { result ≡ change_within change }
 {
     match change {
-        Change::Amount(cents) => size_of(widened(cents)) <= MAX_AMOUNT,
-        Change::Thousandths(part) => size_of(widened(part)) <= MAX_THOUSANDTHS,
+        Change::Amount(cents) => cents.unsigned_abs() <= MAX_AMOUNT,
+        Change::Thousandths(part) => part.unsigned_abs() <= MAX_THOUSANDTHS,
     }
 }
 
@@ -65,15 +58,7 @@ fn line_within(variables: usize, line: RateLine) -> bool
     requires { variables ≤ max_variables }
     ensures { result ≡ line_within variables line }
 {
-    let literal = line.literal;
-    if literal < 2 {
-        return false;
-    }
-    if wide(literal) > 2 * variables + 1 {
-        return false;
-    }
-    let change = line.change;
-    change_within(change)
+    line.literal >= 2 && line.literal as usize <= 2 * variables + 1 && change_within(line.change)
 }
 
 // The numbers are at most 200 whole lines, each within its ranges.

@@ -13,7 +13,6 @@ use crate::cents::to_cents;
 use crate::lines::line_at;
 use crate::{Change, RateLine};
 use layout::values::{Value, literal_value};
-use signed::{product, size_of, sum, widened};
 
 // The limit of the running amount, on either side of zero (`max_running`).
 const MAX_RUNNING: u64 = 1000000000000;
@@ -24,8 +23,8 @@ fn applied(running: i64, change: Change) -> i64
     ensures { result ≡ pricing.applied running change }
 {
     match change {
-        Change::Amount(cents) => sum(running, widened(cents)),
-        Change::Thousandths(part) => sum(running, to_cents(product(running, widened(part)))),
+        Change::Amount(cents) => running + i64::from(cents),
+        Change::Thousandths(part) => running + to_cents(running * i64::from(part)),
     }
 }
 
@@ -33,7 +32,7 @@ fn applied(running: i64, change: Change) -> i64
 fn limited(running: i64) -> Option<i64>
     ensures { result ≡ pricing.limited running }
 {
-    if size_of(running) > MAX_RUNNING {
+    if running.unsigned_abs() > MAX_RUNNING {
         return None;
     }
     Some(running)
@@ -67,11 +66,7 @@ fn is_true(book: &[u32], session: &[u32], literal: u32) -> bool
     requires { (read_refusal book.now session.now ≡ 0) × (literal_within (variables_of book.now) literal ≡ true) }
     ensures { result ≡ is_true (held (formula_of book.now) session.now).trail literal }
 {
-    match value(book, session, literal) {
-        Value::Open => false,
-        Value::True => true,
-        Value::False => false,
-    }
+    value(book, session, literal) == Value::True
 }
 
 // 1 where a literal's variable is open, else 0.
@@ -79,11 +74,7 @@ fn one_if_open(book: &[u32], session: &[u32], literal: u32) -> u32
     requires { (read_refusal book.now session.now ≡ 0) × (literal_within (variables_of book.now) literal ≡ true) }
     ensures { result ≡ one_if_open (is_true (held (formula_of book.now) session.now).trail) literal }
 {
-    match value(book, session, literal) {
-        Value::Open => 1,
-        Value::True => 0,
-        Value::False => 0,
-    }
+    u32::from(value(book, session, literal) == Value::Open)
 }
 
 // All lines, from a start on.

@@ -13,9 +13,10 @@ use Rattle.std.specs.Prelude.{Option, Some, None}
 use Rattle.book.specs.Formula.{literal_within}
 use Rattle.run.specs.Trail.{Entry, is_true}
 use Rattle.layout.specs.Values.{value_in}
+use Rattle.layout.specs.declared.values.Value.{Value}
 use Rattle.layout.specs.declared.values.Value.TheVariants.{Open, True, False}
 use Rattle.layout.proofs.ValueLaws.{value_open, value_true, value_false}
-use Rattle.rating.specs.Pricing.{max_lines, line_of, lines_of, of_kind, are_lines, change_within, line_within, list_within, applied, limited, stepped, priced_by, open_lines, one_if_open, line_open}
+use Rattle.rating.specs.Pricing.{max_lines, line_of, lines_of, of_kind, are_lines, change_within, line_within, list_within, applied, limited, stepped, priced_by, open_lines, is_open, one_if_open, line_open}
 use Rattle.rating.specs.declared.RateLine.{RateLine}
 use Rattle.rating.proofs.PricingLaws.{Small, stepped_small, list_parts, line_parts}
 
@@ -41,16 +42,23 @@ module _ (applies : Bool) where
   step_told holds (Some running) line e = rw e
   step_told holds None line e = refl
 
--- a variable is open where the value of its literal is
-module _ (trail : List Entry) (l : ℕ) where
-  pub told_open : value_in trail l ≡ Open → 1 ≡ one_if_open (is_true trail) l
-  told_open e = let signs = value_open trail l e in rw (signs.0, signs.1)
+-- a literal is true, and its variable is open, by a test of its value
+module _ (trail : List Entry) (l : ℕ) (test : Value → Bool) where
+  pub told_true : test Open ≡ false → test True ≡ true → test False ≡ false → test (value_in trail l) ≡ is_true trail l
+  told_true o t f = go (value_in trail l) refl
+    where
+      go : (v : Value) → value_in trail l ≡ v → test v ≡ is_true trail l
+      go Open e = o ∙ sym (value_open trail l e).0
+      go True e = t ∙ sym (value_true trail l e)
+      go False e = f ∙ sym (value_false trail l e).0
 
-  pub told_true : value_in trail l ≡ True → 0 ≡ one_if_open (is_true trail) l
-  told_true e = rw (value_true trail l e)
-
-  pub told_false : value_in trail l ≡ False → 0 ≡ one_if_open (is_true trail) l
-  told_false e = let signs = value_false trail l e in rw (signs.0, signs.1)
+  pub told_open : test Open ≡ true → test True ≡ false → test False ≡ false → test (value_in trail l) ≡ is_open (is_true trail) l
+  told_open o t f = go (value_in trail l) refl
+    where
+      go : (v : Value) → value_in trail l ≡ v → test v ≡ is_open (is_true trail) l
+      go Open e = let signs = value_open trail l e in rw (signs.0, signs.1) o
+      go True e = rw (value_true trail l e) t
+      go False e = let signs = value_false trail l e in rw (signs.0, signs.1) f
 
 -- Loops over the lines of a list that is within its ranges, on a book of v variables:
 module _ (v : ℕ) (numbers : List ℤ) where

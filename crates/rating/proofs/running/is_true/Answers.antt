@@ -1,23 +1,11 @@
-use mathlib.Core.Path.{◌≡◌, sym, ◌∙◌}
-use Rattle.book.specs.Numbers.{formula_of}
-use Rattle.layout.specs.Layout.{held}
-use Rattle.layout.specs.Values.{value_in}
+use mathlib.Core.Path.{refl, ap, ◌∙◌}
+use denote.Enum.Bare.{sameb}
+use Rattle.layout.specs.contracts.values.Value.{the_type}
 use Rattle.layout.specs.declared.values.Value.{Value}
-use Rattle.layout.specs.declared.values.Value.TheVariants.{Open, True, False}
-use Rattle.layout.proofs.ValueLaws.{value_open, value_true, value_false}
+use Rattle.layout.specs.declared.values.Value.TheVariants.{True}
+use Rattle.rating.proofs.running.Laws.{told_true}
 use Rattle.rating.proofs.running.is_true.Goals as goal
 
-pub returns-in-Open : goal.returns-in-Open
-returns-in-Open c =
-    let told : (value : Value) → c.value.result ≡ value → value_in (held (formula_of c.args.book.now) c.args.session.now).trail c.args.literal ≡ value = λ value e. sym c.value.ensures ∙ e in
-    sym (value_open _ _ (told Open c.in-Open.is)).0
-
-pub returns-in-True : goal.returns-in-True
-returns-in-True c =
-    let told : (value : Value) → c.value.result ≡ value → value_in (held (formula_of c.args.book.now) c.args.session.now).trail c.args.literal ≡ value = λ value e. sym c.value.ensures ∙ e in
-    sym (value_true _ _ (told True c.in-True.is))
-
-pub returns-in-False : goal.returns-in-False
-returns-in-False c =
-    let told : (value : Value) → c.value.result ≡ value → value_in (held (formula_of c.args.book.now) c.args.session.now).trail c.args.literal ≡ value = λ value e. sym c.value.ensures ∙ e in
-    sym (value_false _ _ (told False c.in-False.is)).0
+pub returns : goal.returns
+returns c =
+    c.eq.ensures ∙ ap (λ (v : Value). sameb the_type v True) c.value.ensures ∙ told_true _ _ (λ (v : Value). sameb the_type v True) refl refl refl

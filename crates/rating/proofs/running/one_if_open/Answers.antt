@@ -1,23 +1,16 @@
-use mathlib.Core.Path.{◌≡◌, sym, ◌∙◌}
-use Rattle.book.specs.Numbers.{formula_of}
-use Rattle.layout.specs.Layout.{held}
-use Rattle.layout.specs.Values.{value_in}
+use mathlib.Core.Bool.{Bool, cond}
+use mathlib.Core.Path.{◌≡◌, refl, ap, ◌∙◌}
+use borrow.Author.Rules.{rules}
+use denote.Enum.Bare.{sameb}
+use Rattle.layout.specs.contracts.values.Value.{the_type}
 use Rattle.layout.specs.declared.values.Value.{Value}
-use Rattle.layout.specs.declared.values.Value.TheVariants.{Open, True, False}
-use Rattle.rating.proofs.running.Laws.{told_open, told_true, told_false}
+use Rattle.layout.specs.declared.values.Value.TheVariants.{Open}
+use Rattle.rating.proofs.running.Laws.{told_open}
 use Rattle.rating.proofs.running.one_if_open.Goals as goal
 
-pub returns-in-Open : goal.returns-in-Open
-returns-in-Open c =
-    let told : (value : Value) → c.value.result ≡ value → value_in (held (formula_of c.args.book.now) c.args.session.now).trail c.args.literal ≡ value = λ value e. sym c.value.ensures ∙ e in
-    told_open _ _ (told Open c.in-Open.is)
-
-pub returns-in-True : goal.returns-in-True
-returns-in-True c =
-    let told : (value : Value) → c.value.result ≡ value → value_in (held (formula_of c.args.book.now) c.args.session.now).trail c.args.literal ≡ value = λ value e. sym c.value.ensures ∙ e in
-    told_true _ _ (told True c.in-True.is)
-
-pub returns-in-False : goal.returns-in-False
-returns-in-False c =
-    let told : (value : Value) → c.value.result ≡ value → value_in (held (formula_of c.args.book.now) c.args.session.now).trail c.args.literal ≡ value = λ value e. sym c.value.ensures ∙ e in
-    told_false _ _ (told False c.in-False.is)
+pub returns : goal.returns
+returns c =
+    let byte : c.from.result ≡ cond c.eq.result 1 0 = search rules in
+    byte
+    ∙ ap (λ (b : Bool). cond b 1 0)
+    (c.eq.ensures ∙ ap (λ (v : Value). sameb the_type v Open) c.value.ensures ∙ told_open _ _ (λ (v : Value). sameb the_type v Open) refl refl refl)
