@@ -9,9 +9,9 @@ ghost use Rattle.validation.specs.Validation.{read_refusal};
 ghost use Rattle.rating.specs.Pricing as pricing;
 ghost use Rattle.rating.specs.Pricing.{max_running, change_within, list_within, lines_of, stepped, priced_by, open_lines, one_if_open};
 
+use crate::Change;
 use crate::cents::to_cents;
-use crate::lines::line_at;
-use crate::{Change, RateLine};
+use crate::lines::{line_of, threes};
 use layout::values::{Value, literal_value};
 
 // The limit of the running amount, on either side of zero (`max_running`).
@@ -36,21 +36,6 @@ fn limited(running: i64) -> Option<i64>
         return None;
     }
     Some(running)
-}
-
-// The running amount after a line, which applies or does not.
-fn step(state: Option<i64>, line: RateLine, applies: bool) -> Option<i64>
-    requires { ((running : ℤ) → state ≡ Some running → nat_abs running ≤ max_running) × (change_within line.change ≡ true) }
-    ensures { result ≡ stepped (λ (l : ℕ). applies) state line }
-{
-    if !applies {
-        return state;
-    }
-    let change = line.change;
-    match state {
-        Some(running) => limited(applied(running, change)),
-        None => None,
-    }
 }
 
 // The value of a literal in a session that passes.
@@ -83,15 +68,15 @@ pub(crate) fn apply_all(book: &[u32], session: &[u32], start: i64, numbers: &[i3
     requires start_bound { nat_abs start ≤ max_running }
     ensures { result ≡ priced_by (is_true (held (formula_of book.now) session.now).trail) (Some start) (lines_of numbers.now) }
 {
-    let mut state = Some(start);
-    let mut at = 0;
-    while at + 2 < numbers.len() {
-        let line = line_at(numbers, at);
-        let applies = is_true(book, session, line.literal);
-        state = step(state, line, applies);
-        at += 3;
+    let mut amount = start;
+    let lines = threes(numbers);
+    for &three in lines {
+        let line = line_of(three);
+        if is_true(book, session, line.literal) {
+            amount = limited(applied(amount, line.change))?;
+        }
     }
-    state
+    Some(amount)
 }
 
 // How many lines have an open variable.
@@ -100,11 +85,10 @@ pub(crate) fn open_lines(book: &[u32], session: &[u32], numbers: &[i32]) -> u32
     ensures { result ≡ open_lines (is_true (held (formula_of book.now) session.now).trail) (lines_of numbers.now) }
 {
     let mut count = 0;
-    let mut at = 0;
-    while at + 2 < numbers.len() {
-        let line = line_at(numbers, at);
+    let lines = threes(numbers);
+    for &three in lines {
+        let line = line_of(three);
         count += one_if_open(book, session, line.literal);
-        at += 3;
     }
     count
 }

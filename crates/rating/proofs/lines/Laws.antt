@@ -1,21 +1,17 @@
 -- The numbers of a line: its kind, its literal, and whether that is one of the variables'.
 use Prim.Native.Nat.{ℕ, zero, suc, ◌+◌, ◌*◌, ◌≤◌, ◌<◌}
 use mathlib.Core.Bool.{Bool, true, false, and-false}
-use mathlib.Core.List.{List, ◌∷◌}
 use mathlib.Core.Path.{◌≡◌, refl, sym, ap, subst, ◌∙◌}
 use native.Mathlib.Omega.{arith}
 use borrow.Author.Tests.{eqb-true, eqb-false, ltb-true, lt-leb, le-leb}
 use lib.Dec.{T, leb, eqb}
 use lib.IntN.{ℤ, pos, negsuc, nat_abs}
-use lib.ListN.{length, get_or, drop}
 use lib.Signed.{lt_z, non_neg}
 use mir.Syntax.{w32}
 use mir.Val.{Fits, SFits, to_z, of_z}
 use mir.ValLaws.{to_z-of_z}
-use Rattle.base.proofs.Threes.{three_read}
 use Rattle.book.specs.Formula.{literal_within}
-use Rattle.rating.specs.Pricing.{literal_of, change_of, line_of, lines_of, is_kind, change_within, line_within}
-use Rattle.rating.specs.declared.Change.{Change}
+use Rattle.rating.specs.Pricing.{literal_of, change_of, is_kind, change_within, line_within}
 use Rattle.rating.specs.declared.Change.TheVariants.{Amount, Thousandths}
 use Rattle.rating.specs.declared.RateLine.{RateLine}
 
@@ -85,10 +81,3 @@ module _ (v : ℕ) (line : RateLine) where
   pub literal_right : 2 ≤ line.literal → line.literal ≤ 2 * v + 1 → change_within line.change ≡ line_within v line
   unfolding line_within literal_within
   literal_right low high = rw (le-leb 2 line.literal low, le-leb line.literal (2 * v + 1) high)
-
--- a line that is read from a place on, from its literal and its change
-pub line_read : (numbers : List ℤ) (d : ℤ) (at : ℕ) → at + 2 < length numbers
-    → (literal : ℕ) (change : Change) → literal ≡ literal_of (get_or numbers at d) → change ≡ change_of (get_or numbers (at + 1) d) (get_or numbers (at + 2) d)
-    → lines_of (drop at numbers) ≡ record { literal = literal; change = change } ∷ lines_of (drop (at + 3) numbers)
-unfolding lines_of
-line_read numbers d at h literal change l e = rw (l, e) (three_read line_of numbers at d h)

@@ -1,4 +1,4 @@
-use Prim.Native.Nat.{◌+◌, ◌*◌, ◌<◌}
+use Prim.Native.Nat.{◌/◌, ◌+◌, ◌*◌, ◌<◌}
 use mathlib.Core.Path.{◌∙◌}
 use native.Mathlib.Omega.{arith}
 use borrow.Author.Tests.{lt-leb}
@@ -16,8 +16,9 @@ returns-then-line-variables c =
 pub returns-else-line-variables : goal.returns-else-line-variables
 returns-else-line-variables c =
     elim c.if-line-ge2.branch [
-      | then-line-ge2 w ↦ let high : 2 * c.args.variables + 1 < c.args.line.literal = grind arith in
-          w.value-is ∙ lt-leb _ _ high ∙ literal_high c.args.variables c.args.line high
+      | then-line-ge2 w ↦ let over : c.args.variables < c.args.line.literal / 2 = grind arith in
+          let high : 2 * c.args.variables + 1 < c.args.line.literal = omega (arith, over) in
+          w.value-is ∙ lt-leb _ _ over ∙ literal_high c.args.variables c.args.line high
       | else-line-ge2 w ↦ let low : c.args.line.literal < 2 = grind arith in
           w.value-is ∙ lt-leb _ _ low ∙ literal_low c.args.variables c.args.line low
     ]

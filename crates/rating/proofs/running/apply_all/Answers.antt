@@ -1,41 +1,56 @@
-use mathlib.Core.Bool.{true}
-use mathlib.Core.Path.{◌≡◌, ap, ◌∙◌}
-use borrow.Author.Rules.{rules}
+use mathlib.Core.Path.{◌≡◌, sym, ap, ◌∙◌}
+use native.Mathlib.Omega.{arith}
 use lib.IntN.{ℤ}
 use mir.Syntax.{w64}
+use mir.Val.{to_z}
 use mir.ValLaws.{to_z-of_z}
-use Rattle.book.specs.Formula.{literal_within}
+use Rattle.std.specs.Prelude.{Some, None}
+use Rattle.base.proofs.Signed.{small_fits}
 use Rattle.book.specs.Numbers.{variables_of, formula_of}
 use Rattle.run.specs.Trail.{is_true}
 use Rattle.layout.specs.Layout.{held}
-use Rattle.std.specs.Prelude.{Some}
-use Rattle.rating.specs.Pricing.{lines_of, change_within, priced_by}
-use Rattle.rating.proofs.PricingLaws.{at_small}
-use Rattle.rating.proofs.running.Laws.{applied_none, read_parts, applied_more, applied_all}
+use Rattle.rating.specs.Pricing.{lines_of, applied, limited, priced_by}
+use Rattle.rating.proofs.running.Laws.{applied_none, read_parts, unmet_more, applied_more, applied_beyond, applied_all}
 use Rattle.rating.proofs.running.apply_all.Goals as goal
+use Rattle.rating.proofs.running.apply_all.Goals.{then-is_true+in_ok-amount, else-is_true}
 
-pub loop-at-init : goal.loop-at-init
-loop-at-init c =
-    applied_none (variables_of c.args.book.now) c.args.numbers.now (is_true (held (formula_of c.args.book.now) c.args.session.now).trail) _
-    c.requires.session_value.1 (at_small _ (rw (to_z-of_z w64 c.args.start c.ranges.start) c.requires.start_bound))
+pub loop-three-init : goal.loop-three-init
+loop-three-init c =
+    (c.threes-lines.ensures, rw (to_z-of_z w64 c.args.start c.ranges.start) (applied_none (variables_of c.args.book.now) c.args.numbers.now _ _ _ _ c.requires.session_value.1 c.requires.start_bound))
 
-pub is_true-applies-requires : goal.is_true-applies-requires
-is_true-applies-requires c =
-    let parts : (literal_within (variables_of c.args.book.now) c.line_at-line.result.literal ≡ true) × (change_within c.line_at-line.result.change ≡ true) = read_parts (variables_of c.args.book.now) c.args.numbers.now c.loop-at.at c.loop-at.invariant.ranged c.line_at-line.result c.line_at-line.ensures in
-    (c.requires.session_value.0, (parts).0)
+pub is_true-requires : goal.is_true-requires
+is_true-requires c =
+    let kept = c.loop-three.invariant in
+    (c.requires.session_value.0, (read_parts (variables_of c.args.book.now) c.args.numbers.now c.threes-lines.result.now kept.0 c.loop-three.three-index (omega arith) c.line_of-line.result c.line_of-line.ensures kept.1.ranged).0)
 
-pub step-state-requires : goal.step-state-requires
-step-state-requires c =
-    let parts : (literal_within (variables_of c.args.book.now) c.line_at-line.result.literal ≡ true) × (change_within c.line_at-line.result.change ≡ true) = read_parts (variables_of c.args.book.now) c.args.numbers.now c.loop-at.at c.loop-at.invariant.ranged c.line_at-line.result c.line_at-line.ensures in
-    (c.loop-at.invariant.small, (parts).1)
+pub applied-requires : goal.applied-requires
+applied-requires c =
+    let kept = c.loop-three.invariant in
+    (kept.1.small, (read_parts (variables_of c.args.book.now) c.args.numbers.now c.threes-lines.result.now kept.0 c.loop-three.three-index (omega arith) c.line_of-line.result c.line_of-line.ensures kept.1.ranged).1)
 
-pub loop-at-preserved : goal.loop-at-preserved
-loop-at-preserved c =
-    applied_more (variables_of c.args.book.now) c.args.numbers.now _ _ c.loop-at.state c.loop-at.at c.loop-at.invariant
-    (search rules) c.line_at-line.result c.line_at-line.ensures _ c.is_true-applies.ensures _ c.step-state.ensures
+pub returns-in_err-amount : goal.returns-in_err-amount
+returns-in_err-amount c =
+    let kept = c.loop-three.invariant in
+    let beyond : None ≡ limited (applied (to_z w64 c.loop-three.amount-bits) c.line_of-line.result.change) =
+    c.in_err-amount.ensures ∙ ap limited (to_z-of_z w64 _ (record { sfits = c.applied.type_inv }) ∙ c.applied.ensures) in
+    c.from_residual.ensures
+    ∙ applied_beyond _ _ _ kept.0 _ _ _ c.loop-three.three-index kept.1 (omega arith) c.line_of-line.result c.line_of-line.ensures (sym c.if-is_true.true ∙ c.is_true.ensures) beyond
+    ∙ ap (λ (x : ℤ). priced_by (is_true (held (formula_of c.args.book.now) c.args.session.now).trail) (Some x) (lines_of c.args.numbers.now)) (to_z-of_z w64 c.args.start c.ranges.start)
+
+pub loop-three-preserved : goal.loop-three-preserved
+loop-three-preserved c =
+    let kept = c.loop-three.invariant in
+    elim c.if-is_true.branch [
+      | then-is_true+in_ok-amount w ↦
+          let next : Some w.in_ok-amount.amount ≡ limited (applied (to_z w64 c.loop-three.amount-bits) c.line_of-line.result.change) =
+          w.in_ok-amount.ensures ∙ ap limited (to_z-of_z w64 _ (record { sfits = w.applied.type_inv }) ∙ w.applied.ensures) in
+          let more = applied_more _ _ _ kept.0 _ _ _ c.loop-three.three-index kept.1 (omega arith) c.line_of-line.result c.line_of-line.ensures (sym w.if-is_true.true ∙ c.is_true.ensures) _ next in
+          (kept.0, rw (w.amount-is, to_z-of_z w64 w.in_ok-amount.amount (small_fits _ (omega (arith, more.small)))) more)
+      | else-is_true w ↦ (kept.0, rw w.amount-is (unmet_more _ _ _ kept.0 _ _ _ c.loop-three.three-index kept.1 (omega arith) c.line_of-line.result c.line_of-line.ensures (sym w.if-is_true.false ∙ c.is_true.ensures)))
+    ]
 
 pub returns : goal.returns
 returns c =
-    let trail = (held (formula_of c.args.book.now) c.args.session.now).trail in
-    applied_all (variables_of c.args.book.now) c.args.numbers.now _ _ c.loop-at.state c.loop-at.at c.loop-at.invariant (search rules)
-    ∙ ap (λ (x : ℤ). priced_by (is_true trail) (Some x) (lines_of c.args.numbers.now)) (to_z-of_z w64 c.args.start c.ranges.start)
+    let kept = c.loop-three.invariant in
+    applied_all _ _ _ kept.0 _ _ _ c.loop-three.three-index kept.1 (omega arith)
+    ∙ ap (λ (x : ℤ). priced_by (is_true (held (formula_of c.args.book.now) c.args.session.now).trail) (Some x) (lines_of c.args.numbers.now)) (to_z-of_z w64 c.args.start c.ranges.start)

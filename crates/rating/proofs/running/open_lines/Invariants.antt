@@ -1,12 +1,10 @@
-use Prim.Native.Nat.{◌-◌}
-use lib.ListN.{length}
+use Rattle.std.specs.Prelude.{◌≡◌}
 use Rattle.book.specs.Numbers.{variables_of, formula_of}
 use Rattle.layout.specs.Layout.{held}
+use Rattle.rating.specs.Inner.Threes.{threes_of}
 use Rattle.rating.proofs.running.Laws.{OpenBefore}
 use Rattle.rating.proofs.running.open_lines.Given as goal
 
-abbrev pub invariant-loop-at : goal.invariant-loop-at
-invariant-loop-at l = OpenBefore (variables_of l.book) l.numbers (held (formula_of l.book) l.session).trail l.count l.at
-
-abbrev pub decreases-loop-at : goal.decreases-loop-at
-decreases-loop-at l = length l.numbers - l.at
+abbrev pub invariant-loop-three : goal.invariant-loop-three
+invariant-loop-three l =
+    (made : l.lines ≡ threes_of l.numbers) × OpenBefore (variables_of l.book) l.numbers l.lines made (held (formula_of l.book) l.session).trail l.count l.three-index
