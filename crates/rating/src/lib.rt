@@ -24,14 +24,14 @@ use running::{apply_all, open_lines};
 const MAX_BASE: i64 = 1000000000;
 
 // What a line does to the running amount: it adds an amount in cents, or a change in thousandths of it.
-#[derive(Clone, Copy)]
+#[derive(Clone, Copy, Debug, PartialEq, Eq)]
 enum Change {
     Amount(i32),
     Thousandths(i32),
 }
 
 // A line of a rate list: where its literal is true, it applies.
-#[derive(Clone, Copy)]
+#[derive(Clone, Copy, Debug, PartialEq, Eq)]
 struct RateLine {
     literal: u32,
     change: Change,

@@ -129,9 +129,6 @@ module _ (v : ℕ) (numbers : List ℤ) (rows : List (List ℤ)) (made : rows �
             few = o.few;
           }
 
-      pub open_small : count ≤ max_lines
-      open_small = omega (arith, o.counted, o.few)
-
       pub open_all : length rows ≤ i → count ≡ open_lines (is_true trail) (lines_of numbers)
       unfolding open_lines keep
       open_all last = omega (arith, o.counted, ap (open_lines (is_true trail)) (lines_ended rows i last))
