@@ -38,57 +38,74 @@ fn limited(running: i64) -> Option<i64>
     Some(running)
 }
 
-// The value of a literal in a session that passes.
-fn value(book: &[u32], session: &[u32], literal: u32) -> Value
-    requires { (read_refusal book.now session.now ≡ 0) × (literal_within (variables_of book.now) literal ≡ true) }
-    ensures { result ≡ value_in (held (formula_of book.now) session.now).trail literal }
-{
-    literal_value(session, book::variables(book), literal)
+// A session that passes, on its book.
+#[derive(Clone, Copy)]
+pub(crate) struct Passed<'a> {
+    pub(crate) book: &'a [u32],
+    pub(crate) session: &'a [u32],
+    ghost passes: { read_refusal book.now session.now ≡ 0 },
 }
 
-// A literal is true.
-fn is_true(book: &[u32], session: &[u32], literal: u32) -> bool
-    requires { (read_refusal book.now session.now ≡ 0) × (literal_within (variables_of book.now) literal ≡ true) }
-    ensures { result ≡ is_true (held (formula_of book.now) session.now).trail literal }
-{
-    value(book, session, literal) == Value::True
-}
+impl<'a> Passed<'a> {
+    pub(crate) fn new(book: &'a [u32], session: &'a [u32]) -> Self
+        requires { read_refusal book.now session.now ≡ 0 }
+        ensures book { result.book.now ≡ book.now }
+        ensures session { result.session.now ≡ session.now }
+    {
+        Passed { book, session }
+    }
 
-// 1 where a literal's variable is open, else 0.
-fn one_if_open(book: &[u32], session: &[u32], literal: u32) -> u32
-    requires { (read_refusal book.now session.now ≡ 0) × (literal_within (variables_of book.now) literal ≡ true) }
-    ensures { result ≡ one_if_open (is_true (held (formula_of book.now) session.now).trail) literal }
-{
-    u32::from(value(book, session, literal) == Value::Open)
-}
+    fn value(self, literal: u32) -> Value
+        requires { literal_within (variables_of self.book.now) literal ≡ true }
+        ensures { result ≡ value_in (held (formula_of self.entry.book.now) self.entry.session.now).trail literal }
+    {
+        literal_value(self.session, book::variables(self.book), literal)
+    }
 
-// All lines, from a start on.
-pub(crate) fn apply_all(book: &[u32], session: &[u32], start: i64, numbers: &[i32]) -> Option<i64>
-    requires session_value { (read_refusal book.now session.now ≡ 0) × (list_within (variables_of book.now) numbers.now ≡ true) }
-    requires start_bound { nat_abs start ≤ max_running }
-    ensures { result ≡ priced_by (is_true (held (formula_of book.now) session.now).trail) (Some start) (lines_of numbers.now) }
-{
-    let mut amount = start;
-    let lines = threes(numbers);
-    for &three in lines {
-        let line = line_of(three);
-        if is_true(book, session, line.literal) {
-            amount = limited(applied(amount, line.change))?;
+    // A literal is true.
+    fn is_true(self, literal: u32) -> bool
+        requires { literal_within (variables_of self.book.now) literal ≡ true }
+        ensures { result ≡ is_true (held (formula_of self.entry.book.now) self.entry.session.now).trail literal }
+    {
+        self.value(literal) == Value::True
+    }
+
+    // 1 where a literal's variable is open, else 0.
+    fn one_if_open(self, literal: u32) -> u32
+        requires { literal_within (variables_of self.book.now) literal ≡ true }
+        ensures { result ≡ one_if_open (is_true (held (formula_of self.entry.book.now) self.entry.session.now).trail) literal }
+    {
+        u32::from(self.value(literal) == Value::Open)
+    }
+
+    // All lines, from a start on.
+    pub(crate) fn apply_all(self, start: i64, numbers: &[i32]) -> Option<i64>
+        requires list_bound { list_within (variables_of self.book.now) numbers.now ≡ true }
+        requires start_bound { nat_abs start ≤ max_running }
+        ensures { result ≡ priced_by (is_true (held (formula_of self.entry.book.now) self.entry.session.now).trail) (Some start) (lines_of numbers.now) }
+    {
+        let mut amount = start;
+        let lines = threes(numbers);
+        for &three in lines {
+            let line = line_of(three);
+            if self.is_true(line.literal) {
+                amount = limited(applied(amount, line.change))?;
+            }
         }
+        Some(amount)
     }
-    Some(amount)
-}
 
-// How many lines have an open variable.
-pub(crate) fn open_lines(book: &[u32], session: &[u32], numbers: &[i32]) -> u32
-    requires { (read_refusal book.now session.now ≡ 0) × (list_within (variables_of book.now) numbers.now ≡ true) }
-    ensures { result ≡ open_lines (is_true (held (formula_of book.now) session.now).trail) (lines_of numbers.now) }
-{
-    let mut count = 0;
-    let lines = threes(numbers);
-    for &three in lines {
-        let line = line_of(three);
-        count += one_if_open(book, session, line.literal);
+    // How many lines have an open variable.
+    pub(crate) fn open_lines(self, numbers: &[i32]) -> u32
+        requires { list_within (variables_of self.book.now) numbers.now ≡ true }
+        ensures { result ≡ open_lines (is_true (held (formula_of self.entry.book.now) self.entry.session.now).trail) (lines_of numbers.now) }
+    {
+        let mut count = 0;
+        let lines = threes(numbers);
+        for &three in lines {
+            let line = line_of(three);
+            count += self.one_if_open(line.literal);
+        }
+        count
     }
-    count
 }

@@ -11,22 +11,22 @@ use Rattle.run.specs.Trail.{is_true}
 use Rattle.layout.specs.Layout.{held}
 use Rattle.rating.specs.Pricing.{lines_of, applied, limited, priced_by}
 use Rattle.rating.proofs.running.Laws.{applied_none, read_parts, unmet_more, applied_more, applied_beyond, applied_all}
-use Rattle.rating.proofs.running.apply_all.Goals as goal
-use Rattle.rating.proofs.running.apply_all.Goals.{then-is_true+in_ok-amount, else-is_true}
+use Rattle.rating.proofs.running.Passed.apply_all.Goals as goal
+use Rattle.rating.proofs.running.Passed.apply_all.Goals.{then-is_true+in_ok-amount, else-is_true}
 
 pub loop-three-init : goal.loop-three-init
 loop-three-init c =
-    (c.threes-lines.ensures, rw (to_z-of_z w64 c.args.start c.ranges.start) (applied_none (variables_of c.args.book.now) c.args.numbers.now _ _ _ _ c.requires.session_value.1 c.requires.start_bound))
+    (c.threes-lines.ensures, rw (to_z-of_z w64 c.args.start c.ranges.start) (applied_none (variables_of c.args.self.book.now) c.args.numbers.now _ _ _ _ c.requires.list_bound c.requires.start_bound))
 
 pub is_true-requires : goal.is_true-requires
 is_true-requires c =
     let kept = c.loop-three.invariant in
-    (c.requires.session_value.0, (read_parts (variables_of c.args.book.now) c.args.numbers.now c.threes-lines.result.now kept.0 c.loop-three.three-index (omega arith) c.line_of-line.result c.line_of-line.ensures kept.1.ranged).0)
+    ((read_parts (variables_of c.args.self.book.now) c.args.numbers.now c.threes-lines.result.now kept.0 c.loop-three.three-index (omega arith) c.line_of-line.result c.line_of-line.ensures kept.1.ranged).0)
 
 pub applied-requires : goal.applied-requires
 applied-requires c =
     let kept = c.loop-three.invariant in
-    (kept.1.small, (read_parts (variables_of c.args.book.now) c.args.numbers.now c.threes-lines.result.now kept.0 c.loop-three.three-index (omega arith) c.line_of-line.result c.line_of-line.ensures kept.1.ranged).1)
+    (kept.1.small, (read_parts (variables_of c.args.self.book.now) c.args.numbers.now c.threes-lines.result.now kept.0 c.loop-three.three-index (omega arith) c.line_of-line.result c.line_of-line.ensures kept.1.ranged).1)
 
 pub returns-in_err-amount : goal.returns-in_err-amount
 returns-in_err-amount c =
@@ -35,7 +35,7 @@ returns-in_err-amount c =
     c.in_err-amount.ensures ∙ ap limited (to_z-of_z w64 _ (record { sfits = c.applied.type_inv }) ∙ c.applied.ensures) in
     c.from_residual.ensures
     ∙ applied_beyond _ _ _ kept.0 _ _ _ c.loop-three.three-index kept.1 (omega arith) c.line_of-line.result c.line_of-line.ensures (sym c.if-is_true.true ∙ c.is_true.ensures) beyond
-    ∙ ap (λ (x : ℤ). priced_by (is_true (held (formula_of c.args.book.now) c.args.session.now).trail) (Some x) (lines_of c.args.numbers.now)) (to_z-of_z w64 c.args.start c.ranges.start)
+    ∙ ap (λ (x : ℤ). priced_by (is_true (held (formula_of c.args.self.book.now) c.args.self.session.now).trail) (Some x) (lines_of c.args.numbers.now)) (to_z-of_z w64 c.args.start c.ranges.start)
 
 pub loop-three-preserved : goal.loop-three-preserved
 loop-three-preserved c =
@@ -53,4 +53,4 @@ pub returns : goal.returns
 returns c =
     let kept = c.loop-three.invariant in
     applied_all _ _ _ kept.0 _ _ _ c.loop-three.three-index kept.1 (omega arith)
-    ∙ ap (λ (x : ℤ). priced_by (is_true (held (formula_of c.args.book.now) c.args.session.now).trail) (Some x) (lines_of c.args.numbers.now)) (to_z-of_z w64 c.args.start c.ranges.start)
+    ∙ ap (λ (x : ℤ). priced_by (is_true (held (formula_of c.args.self.book.now) c.args.self.session.now).trail) (Some x) (lines_of c.args.numbers.now)) (to_z-of_z w64 c.args.start c.ranges.start)

@@ -4,8 +4,8 @@ use Rattle.run.specs.Trail.{is_true}
 use Rattle.layout.specs.Layout.{held}
 use Rattle.rating.specs.Inner.Threes.{threes_of}
 use Rattle.rating.proofs.running.Laws.{AppliedBefore}
-use Rattle.rating.proofs.running.apply_all.Given as goal
+use Rattle.rating.proofs.running.Passed.apply_all.Given as goal
 
 abbrev pub invariant-loop-three : goal.invariant-loop-three
 invariant-loop-three l =
-    (made : l.lines ≡ threes_of l.numbers) × AppliedBefore (variables_of l.book) l.numbers l.lines made (is_true (held (formula_of l.book) l.session).trail) l.start l.amount l.three-index
+    (made : l.lines ≡ threes_of l.numbers) × AppliedBefore (variables_of l.self.book.now) l.numbers l.lines made (is_true (held (formula_of l.self.book.now) l.self.session.now).trail) l.start l.amount l.three-index

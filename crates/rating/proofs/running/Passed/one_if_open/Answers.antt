@@ -6,7 +6,7 @@ use Rattle.layout.specs.contracts.values.Value.{the_type}
 use Rattle.layout.specs.declared.values.Value.{Value}
 use Rattle.layout.specs.declared.values.Value.TheVariants.{Open}
 use Rattle.rating.proofs.running.Laws.{told_open}
-use Rattle.rating.proofs.running.one_if_open.Goals as goal
+use Rattle.rating.proofs.running.Passed.one_if_open.Goals as goal
 
 pub returns : goal.returns
 returns c =

@@ -4,7 +4,7 @@ use Rattle.layout.specs.contracts.values.Value.{the_type}
 use Rattle.layout.specs.declared.values.Value.{Value}
 use Rattle.layout.specs.declared.values.Value.TheVariants.{True}
 use Rattle.rating.proofs.running.Laws.{told_true}
-use Rattle.rating.proofs.running.is_true.Goals as goal
+use Rattle.rating.proofs.running.Passed.is_true.Goals as goal
 
 pub returns : goal.returns
 returns c =
