@@ -6,10 +6,7 @@ use mathlib.Core.Path.{◌≡◌, sym}
 use native.Mathlib.Omega.{arith}
 use borrow.Author.Tests.{ne_eqb}
 use lib.IntN.{ℤ, pos, nat_abs, ◌*ℤ◌}
-use mir.Syntax.{w64}
-use mir.Val.{to_z}
-use mir.ValLaws.{to_z-of_z}
-use Rattle.base.proofs.Signed.{product_within, small_fits}
+use Rattle.base.proofs.Signed.{product_within}
 use Rattle.bands.specs.Bands.{max_factor, factor_answer}
 use Rattle.book.specs.Numbers.{formula_of}
 use Rattle.layout.specs.Layout.{held}
@@ -21,10 +18,6 @@ use Rattle.rating.specs.Pricing.{max_base, max_running, base_within, lines_of, p
 use Rattle.rating.specs.Ages.{scaled, age_premium, age_answer}
 use Rattle.rating.proofs.PricingLaws.{rounded_size}
 use Rattle.rating.proofs.AnswerLaws.{base_most}
-
--- a factor as a signed number
-pub factor_is : (factor : ℕ) → factor ≤ max_factor → to_z w64 factor ≡ pos factor
-factor_is factor h = to_z-of_z w64 (pos factor) (small_fits (pos factor) (omega arith))
 
 module _ (base : ℤ) (factor : ℕ) (within : base_within base ≡ true) (h : factor ≤ max_factor) where
   pub product_most : nat_abs (base *ℤ pos factor) ≤ max_base * max_factor

@@ -207,7 +207,7 @@ module _ (book session : List ℕ) (base : ℤ) (table : List ℕ) (age : ℕ) (
   age_by_closure e good h holds by-closure =
       let known = accepted_price book session base numbers e in
       sym (age_answered book session base table age numbers e _ (factor_by_lem table age h (Ok tt) (sym ((good_exactly table).1 good))))
-      ∙ offered_by_closure book session (age_base base table age) numbers known.passed known.out holds by-closure
+      ∙ offered_by_closure book session (age_base base table age) numbers known.passes known.out holds by-closure
 
 -- On a good table the scaled base is base × factor ÷ 1,000 to the nearest cent, by the factor of the one band that the age lies in.
 pub own_base : (base : ℤ) (table : List ℕ) → GoodTable table → (age : ℕ) → age ≤ max_age

@@ -1,13 +1,16 @@
 -- The range of the base, what figures tell, the refusals in their order, and what an answer tells.
-use Prim.Native.Nat.{ℕ, ◌≤◌, ◌<◌}
+use Prim.Native.Nat.{ℕ, ◌≤◌}
 use mathlib.Core.Bool.{Bool, true, false, cond, and-false}
 use mathlib.Core.List.{List}
-use mathlib.Core.Path.{◌≡◌, refl, sym, ap, subst, ◌∙◌}
+use mathlib.Core.Path.{◌≡◌, refl, sym, ap, ◌∙◌}
 use native.Mathlib.Omega.{arith}
-use borrow.Author.Tests.{ltb-true, leb-true, eqb-true, ne_eqb}
-use lib.Dec.{T, leb, eqb}
+use borrow.Author.Tests.{le-leb, leb-true, eqb-true, ne_eqb}
+use lib.Dec.{eqb}
 use lib.IntN.{ℤ, pos, negsuc, nat_abs}
-use lib.Signed.{lt_z}
+use mir.Syntax.{w64}
+use mir.Val.{SFits, to_z, of_z}
+use mir.ValLaws.{to_z-of_z}
+use lib.Signed.{le_z}
 use Rattle.base.proofs.Bools.{never, and_parts}
 use Rattle.book.specs.Numbers.{well_formed, variables_of, formula_of}
 use Rattle.run.specs.Trail.{is_true}
@@ -18,7 +21,7 @@ use Rattle.validation.specs.Validation.{passes, call_refusal, read_refusal}
 use Rattle.std.specs.Prelude.{Result, Ok, Err, Option, Some, None}
 use Rattle.refusals.specs.declared.Refusal.{Refusal}
 use Rattle.refusals.specs.Refusals.{refusal_of, checked}
-use Rattle.refusals.proofs.OutcomeLaws.{outcome_accepted, outcome_refused, refused_alike}
+use Rattle.refusals.proofs.OutcomeLaws.{passed, outcome_accepted, outcome_refused, refused_alike}
 use Rattle.session.specs.Outcomes.{figures_answer}
 use Rattle.session.specs.declared.Shown.{Shown}
 use Rattle.session.proofs.ToldLaws.{shown_refused, shown_conflict}
@@ -27,15 +30,15 @@ use Rattle.session.proofs.PassedLaws.{none_first, own_refusal}
 use Rattle.rating.specs.Pricing.{max_base, max_running, base_within, list_within, lines_of, priced_by, open_lines, offered, premium_of, rates_within, run_refusal, price_refusal, premium_answer}
 use Rattle.rating.specs.declared.Premium.{Premium}
 
-pub base_negative : (x : ℤ) → lt_z x (pos 0) ≡ true → false ≡ base_within x
+pub base_negative : (x : ℤ) → le_z (pos 0) x ≡ false → le_z (pos 0) x ≡ base_within x
 unfolding base_within
-base_negative (pos n) e = let h : n < 0 = ltb-true n 0 e in absurd (omega arith)
+base_negative (pos n) e = absurd (never (le-leb 0 n (omega arith)) e)
 base_negative (negsuc n) e = refl
 
-pub base_natural : (x : ℤ) → lt_z x (pos 0) ≡ false → leb (nat_abs x) max_base ≡ base_within x
+pub base_natural : (x : ℤ) → le_z (pos 0) x ≡ true → le_z x (pos max_base) ≡ base_within x
 unfolding base_within
 base_natural (pos n) e = refl
-base_natural (negsuc n) e = absurd (subst T e tt)
+base_natural (negsuc n) e = absurd (never e refl)
 
 pub base_most : (x : ℤ) → base_within x ≡ true → nat_abs x ≤ max_base
 unfolding base_within
@@ -120,10 +123,14 @@ module _ (book session : List ℕ) where
 
     -- what is known where nothing is refused before the first line
     pub record Accepted : Type 0 where
-      pub passed : read_refusal book session ≡ 0
+      pub passes : read_refusal book session ≡ 0
       pub out : run.conflict ≡ 0
       pub base_right : base_within base ≡ true
       pub list_right : list_within (variables_of book) numbers ≡ true
+
+    -- a call that passes the check of the number that the machine read
+    pub price_passed : SFits w64 base → Ok tt ≡ checked (price_refusal book session (to_z w64 (of_z w64 base)) numbers) → 0 ≡ price_refusal book session base numbers
+    price_passed fits e = passed _ _ (e ∙ ap (λ (x : ℤ). checked (price_refusal book session x numbers)) (to_z-of_z w64 base fits))
 
     pub accepted_price : 0 ≡ price_refusal book session base numbers → Accepted
     unfolding price_refusal
@@ -131,7 +138,7 @@ module _ (book session : List ℕ) where
         let none = none_first book session (run_refusal right) e in
         let parts = go (in_conflict run) right (e ∙ own_refusal book session none (run_refusal right)) in
         let both = and_parts (base_within base) (list_within (variables_of book) numbers) parts.1 in
-        record { passed = sym none; out = out_quiet run parts.0; base_right = both.0; list_right = both.1 }
+        record { passes = sym none; out = out_quiet run parts.0; base_right = both.0; list_right = both.1 }
       where
         go : (c w : Bool) → ◌≡◌ {A = ℕ} 0 (cond c 14 (cond w 0 19)) → (c ≡ false) × (w ≡ true)
         go true w q = absurd (omega arith)

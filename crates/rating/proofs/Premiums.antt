@@ -141,7 +141,7 @@ module _ (book session : List ℕ) (base : ℤ) (numbers : List ℤ) where
   unfolding premium_answer
   price_by_closure e holds by-closure =
       let known = accepted_price book session base numbers e in
-      rw (← e) (offered_by_closure known.passed known.out holds by-closure)
+      rw (← e) (offered_by_closure known.passes known.out holds by-closure)
 
   -- Where no variable is open, no line is.
   pub all_assigned : (amount : ℤ) (n : ℕ) → premium_answer book session base numbers ≡ Ok (record { amount = amount; open_lines = n })
@@ -153,7 +153,7 @@ module _ (book session : List ℕ) (base : ℤ) (numbers : List ℤ) where
       ∙ none_open_lines (is_true run.trail) (variables_of book)
       (λ l within is_open.
       let parts = literal_parts (variables_of book) l within in
-      none_open (variable_of l) (omega (arith, parts.0)) (omega (arith, parts.1)) ((open_by_lookup book session known.passed l within).0 is_open))
+      none_open (variable_of l) (omega (arith, parts.0)) (omega (arith, parts.1)) ((open_by_lookup book session known.passes l within).0 is_open))
       lines (list_parts (variables_of book) numbers known.list_right).2
 
 -- what a session that passes is refused by, without 11 and 12

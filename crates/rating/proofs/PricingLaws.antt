@@ -56,7 +56,7 @@ Small state = (running : ℤ) → state ≡ Some running → nat_abs running ≤
 pub at_small : (x : ℤ) → nat_abs x ≤ max_running → Small (Some x)
 at_small x h running e = let same : running ≡ x = cc in rw same h
 
-limited_small : (x : ℤ) → Small (limited x)
+pub limited_small : (x : ℤ) → Small (limited x)
 unfolding limited
 limited_small x running e = go (leb (nat_abs x) max_running) refl e
   where

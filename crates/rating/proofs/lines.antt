@@ -1,2 +1,3 @@
 -- The laws of src/lines.rt.
 pub mod Laws
+pub mod ThreeLaws

@@ -3,3 +3,4 @@ pub mod Pricing
 pub mod Ages
 pub mod Statement
 pub mod AgeStatement
+pub mod Inner

@@ -8,7 +8,7 @@ mod running;
 ghost use Rattle.std.specs.Prelude.{◌≡◌, true, ◌≤◌, nat_abs, Ok};
 ghost use Rattle.book.specs.Numbers.{variables_of, formula_of};
 ghost use Rattle.layout.specs.Layout.{held};
-ghost use Rattle.validation.specs.Validation.{call_refusal, read_refusal};
+ghost use Rattle.validation.specs.Validation.{call_refusal};
 ghost use Rattle.refusals.specs.Refusals.{checked};
 ghost use Rattle.bands.specs.Bands.{max_factor};
 ghost use Rattle.rating.specs.Pricing.{max_running, base_within, list_within, lines_of, run_refusal, price_refusal, premium_of, premium_answer};
@@ -18,21 +18,20 @@ ghost use Rattle.rating.specs.Ages.{age_answer};
 use cents::to_cents;
 use lines::list_within;
 use refusals::Refusal;
-use running::{apply_all, open_lines};
-use signed::{product, size_of};
+use running::Passed;
 
 // The largest base (`max_base`).
-const MAX_BASE: u64 = 1000000000;
+const MAX_BASE: i64 = 1000000000;
 
 // What a line does to the running amount: it adds an amount in cents, or a change in thousandths of it.
-#[derive(Clone, Copy)]
+#[derive(Clone, Copy, Debug, PartialEq, Eq)]
 enum Change {
     Amount(i32),
     Thousandths(i32),
 }
 
 // A line of a rate list: where its literal is true, it applies.
-#[derive(Clone, Copy)]
+#[derive(Clone, Copy, Debug, PartialEq, Eq)]
 struct RateLine {
     literal: u32,
     change: Change,
@@ -59,10 +58,7 @@ fn check_session(book: &[u32], session: &[u32]) -> Result<(), Refusal>
 fn base_within(base: i64) -> bool
     ensures { result ≡ base_within base }
 {
-    if base < 0 {
-        return false;
-    }
-    size_of(base) <= MAX_BASE
+    base >= 0 && base <= MAX_BASE
 }
 
 // Refuses a call that prices before its first line: 11, 12, 14, then 19 for the base or the list.
@@ -80,15 +76,15 @@ fn check_price(book: &[u32], session: &[u32], base: i64, lines: &[i32]) -> Resul
 }
 
 // The amount after all lines, from a start on, and the number of open lines.
-fn premium_of(book: &[u32], session: &[u32], start: i64, lines: &[i32]) -> Result<Premium, Refusal>
-    requires session_value { (read_refusal book.now session.now ≡ 0) × (list_within (variables_of book.now) lines.now ≡ true) }
+fn premium_of(passed: Passed, start: i64, lines: &[i32]) -> Result<Premium, Refusal>
+    requires list_bound { list_within (variables_of passed.book.now) lines.now ≡ true }
     requires start_bound { nat_abs start ≤ max_running }
-    ensures { result ≡ premium_of start (lines_of lines.now) (Ok (held (formula_of book.now) session.now)) }
+    ensures { result ≡ premium_of start (lines_of lines.now) (Ok (held (formula_of passed.entry.book.now) passed.entry.session.now)) }
 {
-    match apply_all(book, session, start, lines) {
+    match passed.apply_all(start, lines) {
         Some(amount) => Ok(Premium {
             amount,
-            open_lines: open_lines(book, session, lines),
+            open_lines: passed.open_lines(lines),
         }),
         None => Err(Refusal::RunningAmount),
     }
@@ -99,7 +95,7 @@ pub fn price(book: &[u32], session: &[u32], base: i64, lines: &[i32]) -> Result<
     ensures { result ≡ premium_answer book.now session.now base lines.now }
 {
     check_price(book, session, base, lines)?;
-    premium_of(book, session, base, lines)
+    premium_of(Passed::new(book, session), base, lines)
 }
 
 // A base times the factor of an age, in whole cents.
@@ -107,7 +103,7 @@ fn scaled(base: i64, factor: u32) -> i64
     requires { (base_within base ≡ true) × (factor ≤ max_factor) }
     ensures { result ≡ ages.scaled base factor }
 {
-    to_cents(product(base, factor as i64))
+    to_cents(base * i64::from(factor))
 }
 
 /// Prices as `price` does, from the base on that the table of age bands scales for the customer's age.
@@ -123,5 +119,5 @@ pub fn price_for_age(
 {
     check_price(book, session, base, lines)?;
     let factor = bands::factor_at(table, age)?;
-    premium_of(book, session, scaled(base, factor), lines)
+    premium_of(Passed::new(book, session), scaled(base, factor), lines)
 }

@@ -9,11 +9,10 @@ ghost use Rattle.validation.specs.Validation.{read_refusal};
 ghost use Rattle.rating.specs.Pricing as pricing;
 ghost use Rattle.rating.specs.Pricing.{max_running, change_within, list_within, lines_of, stepped, priced_by, open_lines, one_if_open};
 
+use crate::Change;
 use crate::cents::to_cents;
-use crate::lines::line_at;
-use crate::{Change, RateLine};
+use crate::lines::{line_of, threes};
 use layout::values::{Value, literal_value};
-use signed::{product, size_of, sum, widened};
 
 // The limit of the running amount, on either side of zero (`max_running`).
 const MAX_RUNNING: u64 = 1000000000000;
@@ -24,8 +23,8 @@ fn applied(running: i64, change: Change) -> i64
     ensures { result ≡ pricing.applied running change }
 {
     match change {
-        Change::Amount(cents) => sum(running, widened(cents)),
-        Change::Thousandths(part) => sum(running, to_cents(product(running, widened(part)))),
+        Change::Amount(cents) => running + i64::from(cents),
+        Change::Thousandths(part) => running + to_cents(running * i64::from(part)),
     }
 }
 
@@ -33,87 +32,80 @@ fn applied(running: i64, change: Change) -> i64
 fn limited(running: i64) -> Option<i64>
     ensures { result ≡ pricing.limited running }
 {
-    if size_of(running) > MAX_RUNNING {
+    if running.unsigned_abs() > MAX_RUNNING {
         return None;
     }
     Some(running)
 }
 
-// The running amount after a line, which applies or does not.
-fn step(state: Option<i64>, line: RateLine, applies: bool) -> Option<i64>
-    requires { ((running : ℤ) → state ≡ Some running → nat_abs running ≤ max_running) × (change_within line.change ≡ true) }
-    ensures { result ≡ stepped (λ (l : ℕ). applies) state line }
-{
-    if !applies {
-        return state;
-    }
-    let change = line.change;
-    match state {
-        Some(running) => limited(applied(running, change)),
-        None => None,
-    }
+// A session that passes, on its book.
+#[derive(Clone, Copy)]
+pub(crate) struct Passed<'a> {
+    pub(crate) book: &'a [u32],
+    pub(crate) session: &'a [u32],
+    ghost passes: { read_refusal book.now session.now ≡ 0 },
 }
 
-// The value of a literal in a session that passes.
-fn value(book: &[u32], session: &[u32], literal: u32) -> Value
-    requires { (read_refusal book.now session.now ≡ 0) × (literal_within (variables_of book.now) literal ≡ true) }
-    ensures { result ≡ value_in (held (formula_of book.now) session.now).trail literal }
-{
-    literal_value(session, book::variables(book), literal)
-}
-
-// A literal is true.
-fn is_true(book: &[u32], session: &[u32], literal: u32) -> bool
-    requires { (read_refusal book.now session.now ≡ 0) × (literal_within (variables_of book.now) literal ≡ true) }
-    ensures { result ≡ is_true (held (formula_of book.now) session.now).trail literal }
-{
-    match value(book, session, literal) {
-        Value::Open => false,
-        Value::True => true,
-        Value::False => false,
+impl<'a> Passed<'a> {
+    pub(crate) fn new(book: &'a [u32], session: &'a [u32]) -> Self
+        requires { read_refusal book.now session.now ≡ 0 }
+        ensures book { result.book.now ≡ book.now }
+        ensures session { result.session.now ≡ session.now }
+    {
+        Passed { book, session }
     }
-}
 
-// 1 where a literal's variable is open, else 0.
-fn one_if_open(book: &[u32], session: &[u32], literal: u32) -> u32
-    requires { (read_refusal book.now session.now ≡ 0) × (literal_within (variables_of book.now) literal ≡ true) }
-    ensures { result ≡ one_if_open (is_true (held (formula_of book.now) session.now).trail) literal }
-{
-    match value(book, session, literal) {
-        Value::Open => 1,
-        Value::True => 0,
-        Value::False => 0,
+    fn value(self, literal: u32) -> Value
+        requires { literal_within (variables_of self.book.now) literal ≡ true }
+        ensures { result ≡ value_in (held (formula_of self.entry.book.now) self.entry.session.now).trail literal }
+    {
+        literal_value(self.session, book::variables(self.book), literal)
     }
-}
 
-// All lines, from a start on.
-pub(crate) fn apply_all(book: &[u32], session: &[u32], start: i64, numbers: &[i32]) -> Option<i64>
-    requires session_value { (read_refusal book.now session.now ≡ 0) × (list_within (variables_of book.now) numbers.now ≡ true) }
-    requires start_bound { nat_abs start ≤ max_running }
-    ensures { result ≡ priced_by (is_true (held (formula_of book.now) session.now).trail) (Some start) (lines_of numbers.now) }
-{
-    let mut state = Some(start);
-    let mut at = 0;
-    while at + 2 < numbers.len() {
-        let line = line_at(numbers, at);
-        let applies = is_true(book, session, line.literal);
-        state = step(state, line, applies);
-        at += 3;
+    // A literal is true.
+    fn is_true(self, literal: u32) -> bool
+        requires { literal_within (variables_of self.book.now) literal ≡ true }
+        ensures { result ≡ is_true (held (formula_of self.entry.book.now) self.entry.session.now).trail literal }
+    {
+        self.value(literal) == Value::True
     }
-    state
-}
 
-// How many lines have an open variable.
-pub(crate) fn open_lines(book: &[u32], session: &[u32], numbers: &[i32]) -> u32
-    requires { (read_refusal book.now session.now ≡ 0) × (list_within (variables_of book.now) numbers.now ≡ true) }
-    ensures { result ≡ open_lines (is_true (held (formula_of book.now) session.now).trail) (lines_of numbers.now) }
-{
-    let mut count = 0;
-    let mut at = 0;
-    while at + 2 < numbers.len() {
-        let line = line_at(numbers, at);
-        count += one_if_open(book, session, line.literal);
-        at += 3;
+    // 1 where a literal's variable is open, else 0.
+    fn one_if_open(self, literal: u32) -> u32
+        requires { literal_within (variables_of self.book.now) literal ≡ true }
+        ensures { result ≡ one_if_open (is_true (held (formula_of self.entry.book.now) self.entry.session.now).trail) literal }
+    {
+        u32::from(self.value(literal) == Value::Open)
     }
-    count
+
+    // All lines, from a start on.
+    pub(crate) fn apply_all(self, start: i64, numbers: &[i32]) -> Option<i64>
+        requires list_bound { list_within (variables_of self.book.now) numbers.now ≡ true }
+        requires start_bound { nat_abs start ≤ max_running }
+        ensures { result ≡ priced_by (is_true (held (formula_of self.entry.book.now) self.entry.session.now).trail) (Some start) (lines_of numbers.now) }
+    {
+        let mut amount = start;
+        let lines = threes(numbers);
+        for &three in lines {
+            let line = line_of(three);
+            if self.is_true(line.literal) {
+                amount = limited(applied(amount, line.change))?;
+            }
+        }
+        Some(amount)
+    }
+
+    // How many lines have an open variable.
+    pub(crate) fn open_lines(self, numbers: &[i32]) -> u32
+        requires { list_within (variables_of self.book.now) numbers.now ≡ true }
+        ensures { result ≡ open_lines (is_true (held (formula_of self.entry.book.now) self.entry.session.now).trail) (lines_of numbers.now) }
+    {
+        let mut count = 0;
+        let lines = threes(numbers);
+        for &three in lines {
+            let line = line_of(three);
+            count += self.one_if_open(line.literal);
+        }
+        count
+    }
 }

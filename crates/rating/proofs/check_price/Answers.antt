@@ -1,7 +1,6 @@
 use Prim.Native.Nat.{ℕ}
 use mathlib.Core.Bool.{true}
 use mathlib.Core.Path.{◌≡◌, sym, ap, ◌∙◌}
-use native.Mathlib.Omega.{arith}
 use mir.Syntax.{w64}
 use mir.ValLaws.{to_z-of_z}
 use Rattle.std.proofs.lemmas.Result.{err_from_is_err_and}
@@ -9,7 +8,6 @@ use Rattle.refusals.specs.declared.Refusal.TheVariants as refusal
 use Rattle.refusals.proofs.OutcomeLaws.{accepted_as, refused_as, passed}
 use Rattle.book.specs.Numbers.{variables_of}
 use Rattle.validation.specs.Validation.{call_refusal}
-use Rattle.session.proofs.PassedLaws.{none_first, few_variables}
 use Rattle.rating.specs.Pricing.{base_within, list_within, run_refusal}
 use Rattle.rating.proofs.AnswerLaws.{session_refused, base_outside, list_outside, none_outside}
 use Rattle.rating.proofs.check_price.Goals as goal
@@ -24,11 +22,6 @@ returns-then-not-base_within c =
     let quiet : 0 ≡ call_refusal c.args.book.now c.args.session.now (run_refusal true) = passed _ _ c.in_ok-check_session.ensures in
     let base_told : c.base_within.result ≡ base_within c.args.base = c.base_within.ensures ∙ ap base_within (to_z-of_z w64 c.args.base c.ranges.base) in
     refused_as _ tt refusal.PriceInput (base_outside c.args.book.now c.args.session.now c.args.base c.args.lines.now quiet (sym c.if-not-base_within.true ∙ base_told))
-
-pub list_within-requires : goal.list_within-requires
-list_within-requires c =
-    let quiet : 0 ≡ call_refusal c.args.book.now c.args.session.now (run_refusal true) = passed _ _ c.in_ok-check_session.ensures in
-    omega (arith, c.variables.ensures, few_variables _ _ (none_first _ _ (run_refusal true) quiet))
 
 pub returns-then-not-list_within : goal.returns-then-not-list_within
 returns-then-not-list_within c =

@@ -1,21 +1,16 @@
 -- The numbers of a line: its kind, its literal, and whether that is one of the variables'.
 use Prim.Native.Nat.{ℕ, zero, suc, ◌+◌, ◌*◌, ◌≤◌, ◌<◌}
 use mathlib.Core.Bool.{Bool, true, false, and-false}
-use mathlib.Core.List.{List, ◌∷◌}
-use mathlib.Core.Path.{◌≡◌, refl, sym, ap, subst, ◌∙◌}
+use mathlib.Core.Path.{◌≡◌, refl, sym, ap, ◌∙◌}
 use native.Mathlib.Omega.{arith}
-use borrow.Author.Tests.{eqb-true, eqb-false, ltb-true, lt-leb, le-leb}
-use lib.Dec.{T, leb, eqb}
-use lib.IntN.{ℤ, pos, negsuc, nat_abs}
-use lib.ListN.{length, get_or, drop}
-use lib.Signed.{lt_z, non_neg}
+use borrow.Author.Tests.{eqb-true, eqb-false, lt-leb, le-leb}
+use lib.Dec.{leb, eqb}
+use lib.IntN.{ℤ, pos, negsuc}
 use mir.Syntax.{w32}
-use mir.Val.{Fits, SFits, to_z, of_z}
+use mir.Val.{SFits, to_z, of_z}
 use mir.ValLaws.{to_z-of_z}
-use Rattle.base.proofs.Threes.{three_read}
 use Rattle.book.specs.Formula.{literal_within}
-use Rattle.rating.specs.Pricing.{literal_of, change_of, line_of, lines_of, is_kind, change_within, line_within}
-use Rattle.rating.specs.declared.Change.{Change}
+use Rattle.rating.specs.Pricing.{change_of, is_kind, change_within, line_within}
 use Rattle.rating.specs.declared.Change.TheVariants.{Amount, Thousandths}
 use Rattle.rating.specs.declared.RateLine.{RateLine}
 
@@ -56,22 +51,6 @@ thousandths_told (pos zero) other value = absurd (other refl)
 thousandths_told (pos (suc n)) other value = refl
 thousandths_told (negsuc n) other value = refl
 
--- a negative number is no literal
-pub literal_none : (x : ℤ) → lt_z x (pos 0) ≡ true → 0 ≡ literal_of x
-unfolding literal_of
-literal_none (pos n) e = let h : n < 0 = ltb-true n 0 e in absurd (omega arith)
-literal_none (negsuc n) e = refl
-
-pub literal_natural : (x : ℤ) → lt_z x (pos 0) ≡ false → nat_abs x ≡ literal_of x
-unfolding literal_of
-literal_natural (pos n) e = refl
-literal_natural (negsuc n) e = absurd (subst T e tt)
-
--- and one that is not fits
-pub casts : (x : ℤ) → SFits w32 x → lt_z x (pos 0) ≡ false → T (non_neg x) × Fits w32 (nat_abs x)
-casts (pos n) f e = let h : n < 2147483648 = f.sfits in (tt, record { fits = omega arith })
-casts (negsuc n) f e = absurd (subst T e tt)
-
 -- the literal of a line is one of the variables', or is not
 module _ (v : ℕ) (line : RateLine) where
   pub literal_low : line.literal < 2 → false ≡ line_within v line
@@ -85,10 +64,3 @@ module _ (v : ℕ) (line : RateLine) where
   pub literal_right : 2 ≤ line.literal → line.literal ≤ 2 * v + 1 → change_within line.change ≡ line_within v line
   unfolding line_within literal_within
   literal_right low high = rw (le-leb 2 line.literal low, le-leb line.literal (2 * v + 1) high)
-
--- a line that is read from a place on, from its literal and its change
-pub line_read : (numbers : List ℤ) (d : ℤ) (at : ℕ) → at + 2 < length numbers
-    → (literal : ℕ) (change : Change) → literal ≡ literal_of (get_or numbers at d) → change ≡ change_of (get_or numbers (at + 1) d) (get_or numbers (at + 2) d)
-    → lines_of (drop at numbers) ≡ record { literal = literal; change = change } ∷ lines_of (drop (at + 3) numbers)
-unfolding lines_of
-line_read numbers d at h literal change l e = rw (l, e) (three_read line_of numbers at d h)
