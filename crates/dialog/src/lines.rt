@@ -6,6 +6,7 @@ ghost use Rattle.script.specs.Script.{line_of};
 ghost use Rattle.dialog.specs.Taking.{kept_after, line_after};
 
 // Copies the bytes that fit to the front of `buffer`, and answers how many.
+#[tactic(auto, using(crate::proofs::lines::Laws::front_count, crate::proofs::lines::Laws::front_copied))]
 fn store(bytes: &[u8], buffer: &mut [u8]) -> usize
     ensures value { result ≡ fitting bytes.now buffer.old }
     ensures buffer_after { buffer.new ≡ copied bytes.now buffer.old }
