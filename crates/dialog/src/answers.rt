@@ -8,20 +8,11 @@ use crate::Started;
 use crate::lines::parse_kept;
 use book::limits::MAX_VARIABLES;
 use refusals::Refusal;
-use script::Line;
+use script::{Cause, Line};
 use session::Propagated;
 
-// As many literals as a trail has at most, as a count.
-const MOST: u32 = MAX_VARIABLES as u32;
-
 // The line of a call that implied so many literals: the last ones on the trail.
-fn show_implied(
-    book: &[u32],
-    session: &[u32],
-    cause: script::Cause,
-    implied: u32,
-    out: &mut [u8],
-) -> usize
+fn show_implied(book: &[u32], session: &[u32], cause: Cause, implied: u32, out: &mut [u8]) -> usize
     requires { ShowsImplied book.now session.now implied }
     ensures { PrintsImplied book.now session.now cause implied out.old out.new result }
 {
@@ -29,34 +20,24 @@ fn show_implied(
     let Ok(trail) = session::trail_from(book, session, 0, &mut literals) else {
         return 0;
     };
-    if trail < implied {
-        return 0;
-    }
-    if MOST < trail {
-        return 0;
-    }
     let from = (trail - implied) as usize;
-    let to = trail as usize;
-    script::write_implied(cause, &literals[from..to], out)
+    script::write_implied(cause, &literals[from..trail as usize], out)
 }
 
-// The line of an opening or a decision.
+// The line of an opening or a decision that is not refused.
 fn show_propagated(
     book: &[u32],
     session: &[u32],
-    cause: script::Cause,
-    answer: Result<Propagated, Refusal>,
+    cause: Cause,
+    propagated: Propagated,
     out: &mut [u8],
 ) -> usize
-    requires { ShowsPropagated book.now session.now answer }
-    ensures { PrintsPropagated book.now session.now cause answer out.old out.new result }
+    requires { ShowsPropagated book.now session.now propagated }
+    ensures { PrintsPropagated book.now session.now cause propagated out.old out.new result }
 {
-    match answer {
-        Err(refusal) => script::write_refused(refusal.number(), out),
-        Ok(propagated) => match propagated {
-            Propagated::Implied(implied) => show_implied(book, session, cause, implied, out),
-            Propagated::Conflict(clause) => script::write_clause(cause, clause, out),
-        },
+    match propagated {
+        Propagated::Implied(implied) => show_implied(book, session, cause, implied, out),
+        Propagated::Conflict(clause) => script::write_clause(cause, clause, out),
     }
 }
 
@@ -64,11 +45,12 @@ fn show_propagated(
 pub(crate) fn open(book: &[u32], session: &mut [u32], out: &mut [u8]) -> Started
     ensures { start_left result book.now session.new out.new ≡ opening book.now session.old out.old }
 {
-    let made = session::open(book, session);
-    let written = show_propagated(book, session, script::Cause::Opening, made, out);
-    match made {
-        Ok(_) => Started::Open(written),
-        Err(_) => Started::Refused(written),
+    match session::open(book, session) {
+        Ok(propagated) => {
+            let written = show_propagated(book, session, Cause::Opening, propagated, out);
+            Started::Open(written)
+        }
+        Err(refusal) => Started::Refused(script::write_refused(refusal.number(), out)),
     }
 }
 
@@ -84,10 +66,10 @@ pub(crate) fn answer(
 {
     match parse_kept(line, kept) {
         None => script::write_refused(Refusal::Line.number(), out),
-        Some(Line::Choose(literal)) => {
-            let made = session::decide(book, session, literal);
-            show_propagated(book, session, script::Cause::Decision(literal), made, out)
-        }
+        Some(Line::Choose(literal)) => match session::decide(book, session, literal) {
+            Ok(made) => show_propagated(book, session, Cause::Decision(literal), made, out),
+            Err(refusal) => script::write_refused(refusal.number(), out),
+        },
         Some(Line::Back(k)) => match session::backtrack(book, session, k) {
             Ok(_) => script::write_back(k, out),
             Err(refusal) => script::write_refused(refusal.number(), out),

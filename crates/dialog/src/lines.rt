@@ -6,19 +6,14 @@ ghost use Rattle.script.specs.Script.{line_of};
 ghost use Rattle.dialog.specs.Taking.{kept_after, line_after};
 
 // Copies the bytes that fit to the front of `buffer`, and answers how many.
+#[tactic(auto, using(crate::proofs::lines::Laws::front_count, crate::proofs::lines::Laws::front_copied))]
 fn store(bytes: &[u8], buffer: &mut [u8]) -> usize
     ensures value { result ≡ fitting bytes.now buffer.old }
     ensures buffer_after { buffer.new ≡ copied bytes.now buffer.old }
 {
-    let mut i = 0;
-    while i < bytes.len() {
-        if buffer.len() <= i {
-            return i;
-        }
-        buffer[i] = bytes[i];
-        i += 1;
-    }
-    i
+    let n = buffer.len().min(bytes.len());
+    buffer[..n].copy_from_slice(&bytes[..n]);
+    n
 }
 
 // Puts bytes behind the `kept` ones of a line, and answers how many are kept then.
@@ -36,8 +31,5 @@ pub(crate) fn keep(line: &mut [u8], kept: usize, bytes: &[u8]) -> usize
 pub(crate) fn parse_kept(line: &[u8], kept: usize) -> Option<script::Line>
     ensures { result ≡ line_of (take kept line.now) }
 {
-    if kept < line.len() {
-        return script::parse_line(&line[..kept]);
-    }
-    script::parse_line(line)
+    script::parse_line(line.get(..kept).unwrap_or(line))
 }

@@ -1,8 +1,9 @@
 -- The calls on the bytes that are left go on with the part.
-use Rattle.std.proofs.Common.{ℕ, ◌≡◌, ◌+◌, ◌-◌, ◌<◌, ◌≤◌, List, length, take, drop, arith, length-drop, length-take-le}
+use Rattle.std.proofs.Common.{ℕ, ◌≡◌, ◌+◌, ◌-◌, ◌<◌, ◌≤◌, List, length, take, drop, arith, length-drop, length-take-le, sym}
 use Rattle.dialog.specs.Taking.{take_left, taking}
 use Rattle.dialog.specs.declared.Taken.{Taken}
 use Rattle.dialog.proofs.FollowLaws.{use_told}
+use Rattle.dialog.proofs.WrittenLaws.{written_told}
 use Rattle.dialog.proofs.PartLaws.{one_more_lem, all_taken}
 use Rattle.desk.proofs.answer_part.Goals as goal
 
@@ -19,6 +20,12 @@ used book session line held out bytes at less told session' line' out' e =
 
 pub loop-at-init : goal.loop-at-init
 loop-at-init g c = (omega arith, λ after printed taken. (printed, taken))
+
+pub slice_bounds-write_all-end : goal.slice_bounds-write_all-end
+slice_bounds-write_all-end g c = written_told _ _ _ _ _ _ _ _ _ _ c.take-taken.ensures
+
+pub slice_bounds-write_all-end-in-loop-at : goal.slice_bounds-write_all-end-in-loop-at
+slice_bounds-write_all-end-in-loop-at g c = sym (length-take-le _ _ (written_told _ _ _ _ _ _ _ _ _ _ c.take-taken.ensures))
 
 pub overflow_add-at : goal.overflow_add-at
 overflow_add-at g c = omega (arith, (used _ _ _ _ _ c.args.bytes.now c.loop-at.at c.loop-at-test.true _ _ _ _ c.take-taken.ensures).1, c.well_formed)

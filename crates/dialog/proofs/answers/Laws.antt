@@ -1,5 +1,5 @@
 -- What each function of src/answers.rt leaves in the buffer, way out by way out.
-use Rattle.std.specs.Prelude.{Some, None, Result, Ok, Err}
+use Rattle.std.specs.Prelude.{Some, None, Ok, Err}
 use Rattle.refusals.specs.declared.Refusal.{Refusal}
 use Rattle.refusals.specs.Refusals.{number_of}
 use Prim.Native.Nat.{ℕ, ◌-◌, ◌≤◌, ◌<◌}
@@ -54,8 +54,11 @@ module _ (book session : List ℕ) (implied : ℕ) (s : ShowsImplied book sessio
   pub trail_counted : (n : ℕ) → Ok n ≡ copy_answer book session (trail_behind 0) → n ≡ length run.trail
   trail_counted n told = cc (told ∙ run_count book session run session whole)
 
-  pub trail_within_lem : length run.trail ≤ max_variables
-  trail_within_lem = trail_few book session run session whole
+  pub trail_reaches : (n : ℕ) → Ok n ≡ copy_answer book session (trail_behind 0) → implied ≤ n
+  trail_reaches n told = omega (arith, trail_counted n told, s.few)
+
+  pub trail_fits : (n : ℕ) → Ok n ≡ copy_answer book session (trail_behind 0) → n ≤ max_variables
+  trail_fits n told = omega (arith, trail_counted n told, trail_few book session run session whole)
 
   pub trail_shown : (r : Refusal) → Err r ≡ copy_answer book session (trail_behind 0) → ⊥
   trail_shown r told = let z : ◌≡◌ {A = ℕ} 0 1 = cc (told ∙ run_count book session run session whole) in omega arith
@@ -68,34 +71,27 @@ module _ (book session : List ℕ) (implied : ℕ) (s : ShowsImplied book sessio
       = rw (is, f, t) (run_copy book session run session whole implied zeros s.few room) in
       printed_as (ap (implied_line cause) same) w
 
--- a call that propagated, by the cases of its answer
-module _ (book session : List ℕ) (cause : Cause) (made : Result Propagated Refusal) (out now : List ℕ) (r : ℕ) where
-  pub shown_implied : (n : ℕ) → made ≡ Ok (propagated.Implied n) → PrintsImplied book session cause n out now r → PrintsPropagated book session cause made out now r
+-- the line of a call that propagated, by what it came to
+module _ (book session : List ℕ) (cause : Cause) (p : Propagated) (out now : List ℕ) (r : ℕ) where
+  pub shown_implied : (n : ℕ) → p ≡ propagated.Implied n → PrintsImplied book session cause n out now r → PrintsPropagated book session cause p out now r
   unfolding propagated_bytes
-  shown_implied n told p = rw told p
+  shown_implied n told prints = rw told prints
 
-  pub shown_conflict : (clause : ℕ) → made ≡ Ok (propagated.Conflict clause) → Written (clause_line cause clause) out now r → PrintsPropagated book session cause made out now r
+  pub shown_conflict : (clause : ℕ) → p ≡ propagated.Conflict clause → Written (clause_line cause clause) out now r → PrintsPropagated book session cause p out now r
   unfolding propagated_bytes
   shown_conflict clause told w = rw told (printed w)
 
-  pub shown_refusal : (refusal : Refusal) → made ≡ Err refusal → Written (refused_line (number_of refusal)) out now r → PrintsPropagated book session cause made out now r
-  unfolding propagated_bytes
-  shown_refusal refusal told w = rw told (printed w)
-
 -- an opening, by the cases of its answer
-module _ (book session after : List ℕ) (made : Result Propagated Refusal) (out now : List ℕ) (r : ℕ) (a : made ≡ open_answer book (length session)) (e : after ≡ open_numbers book session)
-    (p : PrintsPropagated book after Opening made out now r) where
-  opened : start_left (started_by made r) book after now ≡ opening book session out
-  unfolding opening open_bytes
-  opened = rw (p.bytes, p.count, e, ← a)
+module _ (book session after out now : List ℕ) (r : ℕ) (e : after ≡ open_numbers book session) where
+  pub opened_ok : (p : Propagated) → Ok p ≡ open_answer book (length session) → PrintsPropagated book after Opening p out now r
+      → start_left (started.Open r) book after now ≡ opening book session out
+  unfolding opening open_bytes started_by
+  opened_ok p a prints = rw (prints.bytes, prints.count, e, ← a)
 
-  pub opened_ok : (p : Propagated) → made ≡ Ok p → start_left (started.Open r) book after now ≡ opening book session out
-  unfolding started_by
-  opened_ok p told = rw told at opened
-
-  pub opened_refusal : (refusal : Refusal) → made ≡ Err refusal → start_left (started.Refused r) book after now ≡ opening book session out
-  unfolding started_by
-  opened_refusal refusal told = rw told at opened
+  pub opened_refusal : (refusal : Refusal) → Err refusal ≡ open_answer book (length session) → Written (refused_line (number_of refusal)) out now r
+      → start_left (started.Refused r) book after now ≡ opening book session out
+  unfolding opening open_bytes started_by propagated_bytes
+  opened_refusal refusal a w = rw (w.0, w.1, e, ← a)
 
 -- a line, by what it asks for
 module _ (book session line : List ℕ) (kept : ℕ) (after out now : List ℕ) (r : ℕ) where
@@ -104,20 +100,25 @@ module _ (book session line : List ℕ) (kept : ℕ) (after out now : List ℕ) 
   unfolding line_answer line_numbers
   answered_malformed told e w = record { prints = rw (← told) (printed w); numbers = rw (← told) e }
 
-  pub answered_choice : (l : ℕ) (made : Result Propagated Refusal) → Some (asks.Choose l) ≡ line_of (take kept line) → made ≡ decide_answer book session l
-      → after ≡ decide_numbers book session l → PrintsPropagated book after (Decision l) made out now r → PrintsLine book session after line kept out now r
+  pub answered_choice : (l : ℕ) (p : Propagated) → Some (asks.Choose l) ≡ line_of (take kept line) → Ok p ≡ decide_answer book session l
+      → after ≡ decide_numbers book session l → PrintsPropagated book after (Decision l) p out now r → PrintsLine book session after line kept out now r
   unfolding line_answer line_numbers
-  answered_choice l made told a e p = record { prints = rw (← told, ← a, ← e) p; numbers = rw (← told) e }
+  answered_choice l p told a e prints = record { prints = rw (← told, ← a, ← e) prints; numbers = rw (← told) e }
+
+  pub answered_unchosen : (l : ℕ) (refusal : Refusal) → Some (asks.Choose l) ≡ line_of (take kept line) → Err refusal ≡ decide_answer book session l
+      → after ≡ decide_numbers book session l → Written (refused_line (number_of refusal)) out now r → PrintsLine book session after line kept out now r
+  unfolding line_answer line_numbers propagated_bytes
+  answered_unchosen l refusal told a e w = record { prints = rw (← told, ← a) (printed w); numbers = rw (← told) e }
 
   pub answered_back : (k : ℕ) → Some (asks.Back k) ≡ line_of (take kept line) → Ok tt ≡ backtrack_answer book session k → after ≡ backtrack_numbers book session k
       → Written (back_line k) out now r → PrintsLine book session after line kept out now r
   unfolding line_answer line_numbers back_bytes
   answered_back k told a e w = record { prints = rw (← told, ← a) (printed w); numbers = rw (← told) e }
 
-  pub answered_refusal : (k : ℕ) (refusal : Refusal) → Some (asks.Back k) ≡ line_of (take kept line) → Err refusal ≡ backtrack_answer book session k → after ≡ backtrack_numbers book session k
+  pub answered_unbacked : (k : ℕ) (refusal : Refusal) → Some (asks.Back k) ≡ line_of (take kept line) → Err refusal ≡ backtrack_answer book session k → after ≡ backtrack_numbers book session k
       → Written (refused_line (number_of refusal)) out now r → PrintsLine book session after line kept out now r
   unfolding line_answer line_numbers back_bytes
-  answered_refusal k refusal told a e w = record { prints = rw (← told, ← a) (printed w); numbers = rw (← told) e }
+  answered_unbacked k refusal told a e w = record { prints = rw (← told, ← a) (printed w); numbers = rw (← told) e }
 
 -- a line that has begun, or none
 module _ (book session line : List ℕ) (kept : ℕ) (out : List ℕ) where

@@ -1,6 +1,5 @@
 -- What the contracts of src/answers.rt cite: a line stands in a lent buffer.
-use Rattle.std.specs.Prelude.{ℕ, ◌-◌, ◌≤◌, ◌≡◌, List, length, take, Result, Ok}
-use Rattle.refusals.specs.declared.Refusal.{Refusal}
+use Rattle.std.specs.Prelude.{ℕ, ◌-◌, ◌≤◌, ◌≡◌, List, length, take, Ok}
 use Rattle.base.specs.Lists.{copied}
 use Rattle.book.specs.Numbers.{formula_of}
 use Rattle.run.specs.Run.{trail_behind}
@@ -25,8 +24,8 @@ pub record ShowsImplied (book session : List ℕ) (implied : ℕ) : Type 0 where
   pub passes : read_refusal book session ≡ 0
   pub few : implied ≤ length (held (formula_of book) session).trail
 
-abbrev pub ShowsPropagated : List ℕ → List ℕ → Result Propagated Refusal → Type 0
-ShowsPropagated book session answer = (n : ℕ) → answer ≡ Ok (Implied n) → ShowsImplied book session n
+abbrev pub ShowsPropagated : List ℕ → List ℕ → Propagated → Type 0
+ShowsPropagated book session propagated = (n : ℕ) → propagated ≡ Implied n → ShowsImplied book session n
 
 abbrev pub PrintsImplied : List ℕ → List ℕ → Cause → ℕ → List ℕ → List ℕ → ℕ → Type 0
 PrintsImplied book session cause implied out now r =
@@ -34,8 +33,8 @@ PrintsImplied book session cause implied out now r =
     (implied_line cause (trail_behind (length (held (formula_of book) session).trail - implied) (held (formula_of book) session)))
     out now r
 
-abbrev pub PrintsPropagated : List ℕ → List ℕ → Cause → Result Propagated Refusal → List ℕ → List ℕ → ℕ → Type 0
-PrintsPropagated book session cause answer out now r = Prints (propagated_bytes cause answer (held (formula_of book) session)) out now r
+abbrev pub PrintsPropagated : List ℕ → List ℕ → Cause → Propagated → List ℕ → List ℕ → ℕ → Type 0
+PrintsPropagated book session cause propagated out now r = Prints (propagated_bytes cause (Ok propagated) (held (formula_of book) session)) out now r
 
 -- a kept line is answered, and the session is the one behind it
 pub record PrintsLine (book session after line : List ℕ) (kept : ℕ) (out now : List ℕ) (r : ℕ) : Type 0 where
