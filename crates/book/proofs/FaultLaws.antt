@@ -189,16 +189,17 @@ pub not_refused_7 : (text : List ℕ) → read_text text ≡ refused 7 → ⊥
 unfolding refusal_of first_with refusals
 not_refused_7 text h = absurd (omega (arith, (refused_number text 7 h).0))
 
-pub never_7 : (text : List ℕ) (room : ℕ) → read_answer (read_text text) room ≡ Err (refusal_of 7) → ⊥
+pub never_7 : (text : List ℕ) (room : ℕ) (r : Refusal) → read_answer (read_text text) room ≡ Err r → number_of r ≡ 7 → ⊥
 unfolding refusal_of first_with refusals
-never_7 text room = go (read_text text) refl
+never_7 text room r a seven = go (read_text text) refl a
   where
-    go : (judged : Judged) → read_text text ≡ judged → read_answer judged room ≡ Err (refusal_of 7) → ⊥
+    go : (judged : Judged) → read_text text ≡ judged → read_answer judged room ≡ Err r → ⊥
     go (refused n) e a =
-        let is : refusal_of n ≡ refusal_of 7 = cc in
-        absurd (omega (arith, refused_number text n e, ap number_of is))
+        let is : refusal_of n ≡ r = cc in
+        let same : n ≡ 7 = sym (refused_number text n e).0 ∙ (ap number_of is ∙ seven) in
+        absurd (not_refused_7 text (e ∙ ap refused same))
     go (accepted formula) e a = book (ltb room (length (numbers_of formula))) a
       where
-        book : (short : Bool) → cond {A = Result Sizes Refusal} short (Err (refusal_of 10)) (Ok (record { variables = formula.variables; clauses = length formula.clauses; literals = length (literals formula) })) ≡ Err (refusal_of 7) → ⊥
-        book true a = let is : refusal_of 10 ≡ refusal_of 7 = cc in absurd (omega (arith, ap number_of is))
+        book : (short : Bool) → cond {A = Result Sizes Refusal} short (Err (refusal_of 10)) (Ok (record { variables = formula.variables; clauses = length formula.clauses; literals = length (literals formula) })) ≡ Err r → ⊥
+        book true a = let is : refusal_of 10 ≡ r = cc in absurd (omega (arith, ap number_of is, seven))
         book false a = let z : ◌≡◌ {A = ℕ} 0 1 = cc in absurd (omega arith)
