@@ -97,7 +97,7 @@ sum [] = 0
 sum (x ∷ xs) = x + sum xs
 
 -- what fits is copied to the front, and what lies behind stays
-unfoldable pub copied : List ℕ → List ℕ → List ℕ
+unfoldable pub copied : {A : Type 0} → List A → List A → List A
 copied source buffer = take (length buffer) source ++ drop (length source) buffer
 
 -- the same elements, in any order

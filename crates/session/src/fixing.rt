@@ -15,10 +15,7 @@ fn check_fixing(book: &[u32], session: &[u32], f: u32) -> Result<(), Refusal>
     if ended {
         return Err(Refusal::InConflict);
     }
-    if f < session[FIXED] {
-        return Err(Refusal::FixingRange);
-    }
-    if f > session[DECISIONS] {
+    if f < session[FIXED] || f > session[DECISIONS] {
         return Err(Refusal::FixingRange);
     }
     Ok(())
