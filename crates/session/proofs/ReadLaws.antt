@@ -14,7 +14,8 @@ use Rattle.session.proofs.copies.Laws.{sum_same}
 use Rattle.book.specs.Formula.{max_variables, max_clauses, variable_of, positive, negative}
 use Rattle.book.specs.Numbers.{variables_of, clauses_of, formula_of}
 use Rattle.run.specs.Trail.{is_true, level}
-use Rattle.run.specs.Run.{trail_behind}
+use Rattle.run.specs.Run.{decide, backtrack, trail_behind}
+use Rattle.engine.specs.Engine.{Becomes, Holding}
 use Rattle.run.specs.Calls.{decide_refusal, backtrack_refusal, fix_refusal, max_backtracks}
 use Rattle.layout.specs.Layout.{Fits, TrailFits, required_length, checks_at, value_slot, level_before, held, length_at, decisions_at, conflict_at, backtracks_at, fixed_at, trail_at}
 use Rattle.layout.specs.Values.{value_read, value_in}
@@ -25,7 +26,9 @@ use Rattle.refusals.specs.declared.Refusal.TheVariants as refusal
 use Rattle.refusals.specs.Refusals.{checked}
 use Rattle.refusals.proofs.OutcomeLaws.{passed, accepted_as, refused_as}
 use Rattle.validation.specs.Validation.{read_refusal}
-use Rattle.session.specs.Outcomes.{session_decide_refusal, session_backtrack_refusal, session_fix_refusal, figures_answer, fixed_answer, total_answer, lookup_answer, copy_answer, copy_numbers, checks_of_run}
+use Rattle.session.specs.Inner.Answers.{head_answer}
+use Rattle.session.specs.declared.Propagated.{Propagated}
+use Rattle.session.specs.Outcomes.{decide_answer, decide_numbers, backtrack_answer, backtrack_numbers, session_decide_refusal, session_backtrack_refusal, session_fix_refusal, figures_answer, fixed_answer, total_answer, lookup_answer, copy_answer, copy_numbers, checks_of_run}
 use Rattle.session.specs.declared.Assigned.TheVariants as assigned
 use Rattle.session.proofs.PassedLaws as p
 use Rattle.session.proofs.AnswerLaws as a
@@ -228,3 +231,33 @@ module _ (book session : List ℕ) (zero : read_refusal book session ≡ 0) (l :
 
     pub level_known : level_before v session (get_or session slot 0 / 2) ≡ level (held (formula_of book) session).trail l
     level_known = rw (slot-of-book, v-is) (p.level_is book session (sym zero) l t)
+
+-- a decision that is not refused: what the engine's decision requires, and what it comes to
+module _ (book session : List ℕ) (l : ℕ) (ok : Ok tt ≡ checked (session_decide_refusal book session l)) where
+  abbrev pub decide_holds : Holding book session
+  decide_holds = a.decide_holding book session l (passed _ tt ok)
+
+  pub decide_allowed : decide_refusal (formula_of book) l (held (formula_of book) session) ≡ 0
+  decide_allowed = a.decide_own book session l (passed _ tt ok)
+
+  pub decide_room : (get_or session length_at 0 ≤ max_variables) × (required_length (variables_of book) (clauses_of book) ≤ length session)
+  decide_room = (a.decide_room book session l (passed _ tt ok), a.decide_long book session l (passed _ tt ok))
+
+  module _ (now : List ℕ) (b : Becomes book session now (decide (formula_of book) l (held (formula_of book) session))) where
+    pub decide_leaves : (trail_at ≤ length now) × (get_or session length_at 0 + 1 ≤ get_or now length_at 0)
+    decide_leaves = (omega (arith, b.encodes.long), a.decide_grows book session l (passed _ tt ok) now b)
+
+    pub decide_ends : (said : Propagated) → said ≡ head_answer now (get_or session length_at 0 + 1) → (Ok said ≡ decide_answer book session l) × (now ≡ decide_numbers book session l)
+    decide_ends said e = let done = a.decide_done book session l (passed _ tt ok) now b in (ap Ok e ∙ done.0, done.1)
+
+-- a backtrack that is not refused
+module _ (book session : List ℕ) (k : ℕ) (ok : Ok tt ≡ checked (session_backtrack_refusal book session k)) where
+  abbrev pub backtrack_holds : Holding book session
+  backtrack_holds = a.back_holding book session k (passed _ tt ok)
+
+  pub backtrack_allowed : backtrack_refusal k (held (formula_of book) session) ≡ 0
+  backtrack_allowed = a.back_own book session k (passed _ tt ok)
+
+  pub backtrack_ends : (now : List ℕ) → Becomes book session now (backtrack k (held (formula_of book) session))
+      → (Ok tt ≡ backtrack_answer book session k) × (now ≡ backtrack_numbers book session k)
+  backtrack_ends = a.back_done book session k (passed _ tt ok)
