@@ -61,6 +61,9 @@ module _ (book session : List ℕ) (ok : Ok tt ≡ checked (read_refusal book se
   pub read_long : required_length (variables_of book) (clauses_of book) ≤ length session
   read_long = p.long book session none
 
+  pub read_header : (read_refusal book session ≡ 0) × (5 ≤ length session)
+  read_header = (sym none, omega (arith, p.long book session none))
+
   pub read_figures : Ok (record { decisions = get_or session decisions_at 0; backtracks = get_or session backtracks_at 0; trail = get_or session length_at 0; conflict = get_or session conflict_at 0 }) ≡ figures_answer book session
   read_figures = p.figures_are book session none
 
