@@ -1,7 +1,7 @@
 use native.Mathlib.Omega.{arith}
 use Rattle.session.specs.Outcomes.{checks_of_run}
 use Rattle.session.proofs.AnswerLaws.{copy_refused}
-use Rattle.session.proofs.ReadLaws.{handed_on, sizes_small, checks_inside, checks_copied}
+use Rattle.session.proofs.ReadLaws.{handed_on, checks_inside, checks_copied}
 use Rattle.session.proofs.checks.Goals as goal
 
 pub returns-in_err-validate-clause-value : goal.returns-in_err-validate-clause-value
@@ -11,24 +11,9 @@ returns-in_err-validate-clause-value c =
 pub returns-in_err-validate-clause-out_after : goal.returns-in_err-validate-clause-out_after
 returns-in_err-validate-clause-out_after c = (copy_refused _ _ checks_of_run _ _ c.in_err-validate.ensures).1
 
-pub checks_at-from-requires : goal.checks_at-from-requires
-checks_at-from-requires c = sizes_small _ _ c.in_ok-validate.ensures _ c.variables.ensures _ c.clauses-clauses.ensures
-
-pub overflow_add-from : goal.overflow_add-from
-overflow_add-from c =
-    omega (arith, checks_inside _ _ c.in_ok-validate.ensures _ c.variables.ensures _ c.clauses-clauses.ensures _ c.checks_at-from.ensures)
-
-pub offset_bounds-session-from : goal.offset_bounds-session-from
-offset_bounds-session-from c =
-    omega (arith, checks_inside _ _ c.in_ok-validate.ensures _ c.variables.ensures _ c.clauses-clauses.ensures _ c.checks_at-from.ensures)
-
 pub slice_bounds-copy_fitting-end : goal.slice_bounds-copy_fitting-end
 slice_bounds-copy_fitting-end c =
     omega (arith, checks_inside _ _ c.in_ok-validate.ensures _ c.variables.ensures _ c.clauses-clauses.ensures _ c.checks_at-from.ensures)
-
-pub overflow_cast-result : goal.overflow_cast-result
-overflow_cast-result c =
-    omega (arith, sizes_small _ _ c.in_ok-validate.ensures _ c.variables.ensures _ c.clauses-clauses.ensures)
 
 pub returns : goal.returns
 returns c =
