@@ -54,13 +54,6 @@ module _ (source before now : List ℕ) (i : ℕ) (c : Copied source before now 
       (ap (λ (k : ℕ). take k source) is-full)
       (drop_of_length-le before h ∙ sym (drop_of_length-le before over))
 
-  -- and how many numbers it copied
-  pub count_all : length source ≤ i → i ≡ length (take (length before) source)
-  count_all h = rw (take_all (length before) source (omega (arith, c.in_source, c.in_target))) (omega (arith, c.in_source))
-
-  pub count_full : length before ≤ i → i ≡ length (take (length before) source)
-  count_full h = rw (length-take (length before) source) (omega (arith, c.in_source, c.in_target))
-
 -- all of the source is copied, and more is put behind it
 pub copied_behind : (source before now more after : List ℕ) (at : ℕ) → Copied source before now (length source) → at ≡ length source → at + length more ≤ length before
     → after ≡ take at now ++ (more ++ drop (at + length more) now) → Copied (source ++ more) before after (length (source ++ more))

@@ -12,3 +12,4 @@ pub mod TextLaws
 pub mod FixedDecisions
 pub mod ReplayLaws
 pub mod NumberLaws
+pub mod ReadLaws

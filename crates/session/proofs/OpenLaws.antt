@@ -3,13 +3,13 @@ use Rattle.std.specs.Prelude.{Ok, Err}
 use Rattle.refusals.specs.declared.Refusal.{Refusal}
 use Rattle.refusals.specs.declared.Refusal.TheVariants as refusal
 use Rattle.refusals.specs.Refusals.{refusals, first_with, refusal_of, checked}
-use Rattle.refusals.proofs.OutcomeLaws.{outcome_refused}
+use Rattle.refusals.proofs.OutcomeLaws.{outcome_refused, accepted_as, refused_as}
 use Rattle.layout.specs.Layout.{trail_at, required_length, encode}
 use Rattle.book.specs.Formula.{Formula}
 use Prim.Native.Nat.{ℕ, ◌-◌, ◌≤◌, ◌<◌}
 use mathlib.Core.Path.{◌≡◌, refl, ap, ap₂, sym, ◌∙◌}
 use mathlib.Core.Bool.{Bool, true, false, cond, not}
-use mathlib.Core.List.{List, ◌++◌}
+use mathlib.Core.List.{List, [], ◌++◌}
 use native.Mathlib.Omega.{arith}
 use borrow.Author.Tests.{ne_eqb, lt-ltb, le-ltb}
 use lib.Dec.{eqb}
@@ -110,3 +110,15 @@ module _ (book buffer : List ℕ) where
       let front : now ≡ encode (formula_of book) run ++ drop (required_length (variables_of book) (length (formula_of book).clauses)) buffer = is ∙ overwritten_is book buffer calls (sym e) in
       let e' : Encodes (formula_of book) now run = rw front (encode_encodes (formula_of book) s run (reference_valid (formula_of book) s calls) (drop (required_length (variables_of book) (length (formula_of book).clauses)) buffer)) in
       (rw (← e) (ap Ok (head_answer_lem (formula_of book) now run 0 e')), omega (arith, e'.long))
+
+-- an opening, by what is known of the book and of the room
+module _ (book : List ℕ) (room : ℕ) where
+  pub opening_no_book : well_formed book ≡ false → Err refusal.Book ≡ checked (open_refusal book room)
+  opening_no_book e = refused_as _ tt refusal.Book (open_eleven book [] room e)
+
+  module _ (well : well_formed book ≡ true) (needed : ℕ) (is : needed ≡ required_length (variables_of book) (clauses_of book)) where
+    pub opening_short : room < needed → Err refusal.ShortMemory ≡ checked (open_refusal book room)
+    opening_short h = refused_as _ tt refusal.ShortMemory (open_ten book [] room well (omega arith))
+
+    pub opening_fits : needed ≤ room → Ok tt ≡ checked (open_refusal book room)
+    opening_fits h = accepted_as _ tt (open_none book [] room well (omega arith))

@@ -1,5 +1,6 @@
 -- A list of calls written as numbers, two a call, and a replay that has made some of them.
-use Prim.Native.Nat.{ℕ, suc, ◌+◌, ◌≤◌, ◌<◌}
+use Rattle.std.specs.Prelude.{Ok}
+use Prim.Native.Nat.{ℕ, suc, ◌+◌, ◌*◌, ◌≤◌, ◌<◌}
 use mathlib.Core.Path.{◌≡◌, refl, ap, sym, ◌∙◌}
 use mathlib.Core.Bool.{cond}
 use mathlib.Core.List.{List, [], ◌∷◌}
@@ -9,8 +10,14 @@ use borrow.Author.Tests.{eq-eqb, ne_eqb}
 use lib.Dec.{eqb}
 use lib.ListN.{length, get_or, drop, length-drop}
 use lib.Seq.{drop-cons}
+use Rattle.book.specs.Numbers.{formula_of}
+use Rattle.engine.specs.Engine.{Becomes}
+use Rattle.refusals.specs.Refusals.{checked}
+use Rattle.refusals.proofs.OutcomeLaws.{passed}
+use Rattle.session.proofs.OpenLaws.{open_done, replay_numbers_lem}
+use Rattle.run.specs.Run.{open_run}
 use Rattle.run.specs.Calls.{Call, decision, backtrack_by, fix_by}
-use Rattle.session.specs.Outcomes.{calls_of, decide_numbers, backtrack_numbers, fix_numbers, call_numbers, played_numbers}
+use Rattle.session.specs.Outcomes.{open_refusal, replay_numbers, calls_of, decide_numbers, backtrack_numbers, fix_numbers, call_numbers, played_numbers}
 
 -- two numbers a call
 abbrev call_at : List ℕ → ℕ → Call
@@ -67,6 +74,20 @@ module _ (book calls opened session next : List ℕ) (i : ℕ) (r : Replaying bo
     unfolding call_numbers
     replaying_backtrack k e = step (backtrack_by (get_or calls (i + 1) 0)) (rw (ne_eqb (get_or calls i 0) 0 other, ne_eqb (get_or calls i 0) 2 k)) e
 
+-- one call more, two numbers further
+pub replaying_next : (book calls opened session : List ℕ) (k : ℕ) → Replaying book calls opened session (2 * k + 2) → Replaying book calls opened session (2 * (k + 1))
+replaying_next book calls opened session k r =
+    let two : 2 * (k + 1) ≡ 2 * k + 2 = omega arith in
+    rw two r
+
 pub replaying_all : (book calls opened session : List ℕ) (i : ℕ) → Replaying book calls opened session i → length calls ≤ i + 1 → session ≡ played_numbers book opened (calls_of calls)
 unfolding played_numbers
 replaying_all book calls opened session i r h = sym (ap (played_numbers book session) (calls_end calls i h)) ∙ r.same
+
+-- a replay that was not refused and has made all calls
+pub replay_finished : (book calls buffer opened now : List ℕ) (i : ℕ) → Ok tt ≡ checked (open_refusal book (length buffer))
+    → Becomes book buffer opened (open_run (formula_of book)) → Replaying book calls opened now i → length calls ≤ i + 1
+    → now ≡ replay_numbers book (calls_of calls) buffer
+replay_finished book calls buffer opened now i ok b r h =
+    let accepted = passed _ tt ok in
+    replay_numbers_lem book buffer (calls_of calls) opened now accepted (open_done book buffer opened accepted b).1 (replaying_all book calls opened now i r h)

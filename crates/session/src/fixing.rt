@@ -7,6 +7,7 @@ use layout::offsets::{CONFLICT, DECISIONS, FIXED};
 use refusals::Refusal;
 
 // Refuses a fixing in conflict, and one of fewer decisions than are fixed or of more than are in force.
+#[tactic(auto, using(crate::proofs::ReadLaws::read_header, crate::proofs::ReadLaws::fixing_in_conflict, crate::proofs::ReadLaws::fixing_below, crate::proofs::ReadLaws::fixing_over, crate::proofs::ReadLaws::fixing_within))]
 fn check_fixing(book: &[u32], session: &[u32], f: u32) -> Result<(), Refusal>
     ensures { result ≡ checked (session_fix_refusal book.now session.now f) }
 {
@@ -15,10 +16,7 @@ fn check_fixing(book: &[u32], session: &[u32], f: u32) -> Result<(), Refusal>
     if ended {
         return Err(Refusal::InConflict);
     }
-    if f < session[FIXED] {
-        return Err(Refusal::FixingRange);
-    }
-    if f > session[DECISIONS] {
+    if f < session[FIXED] || f > session[DECISIONS] {
         return Err(Refusal::FixingRange);
     }
     Ok(())
@@ -34,6 +32,7 @@ pub fn fix(book: &[u32], session: &mut [u32], f: u32) -> Result<(), Refusal>
 }
 
 // How many decisions are fixed.
+#[tactic(auto, using(crate::proofs::ReadLaws::read_header, crate::proofs::ReadLaws::read_fixed))]
 pub fn fixed(book: &[u32], session: &[u32]) -> Result<u32, Refusal>
     ensures { result ≡ fixed_answer book.now session.now }
 {

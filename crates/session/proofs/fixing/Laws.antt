@@ -1,7 +1,7 @@
 -- A fixing, way out by way out: the refusals in their order, and what an accepted one answers and leaves; and how many decisions are fixed.
 use Rattle.refusals.specs.declared.Refusal.{Refusal}
 use Rattle.refusals.specs.Refusals.{checked}
-use Rattle.refusals.proofs.OutcomeLaws.{outcome_refused}
+use Rattle.refusals.proofs.OutcomeLaws.{outcome_refused, passed}
 use Rattle.std.specs.Prelude.{Ok, Err}
 use Prim.Native.Nat.{ℕ, ◌≤◌, ◌<◌}
 use native.Mathlib.Omega.{arith}
@@ -98,3 +98,12 @@ module _ (book session : List ℕ) where
           (fix_valid (formula_of book) f (held (formula_of book) session) (facts book session fix_none).0 fix-own)
           b),
     )
+
+  -- the same, by what the test answered
+  module _ (f : ℕ) (ok : Ok tt ≡ checked (session_fix_refusal book session f)) where
+    abbrev pub fix_holds : Holding book session
+    fix_holds = fix_holding f (passed _ tt ok)
+
+    pub fix_ends : (now : List ℕ) → Becomes book session now (fix f (held (formula_of book) session))
+        → (Ok tt ≡ fix_answer book session f) × (now ≡ fix_numbers book session f)
+    fix_ends = fix_done f (passed _ tt ok)

@@ -1,16 +1,15 @@
-use Rattle.std.proofs.lemmas.Result.{err_from_is_err_and}
 use Rattle.refusals.proofs.OutcomeLaws.{passed}
 use mathlib.Core.Path.{sym, ◌∙◌, ap}
 use Rattle.std.specs.Prelude.{Ok}
 use native.Mathlib.Omega.{arith}
 use Rattle.session.proofs.CallLaws.{open_accepted}
 use Rattle.session.proofs.OpenLaws.{open_refused, open_done}
+use Rattle.session.proofs.ReadLaws.{handed_on}
 use Rattle.session.proofs.open.Goals as goal
 
 pub returns-in_err-check_opening-clause-value : goal.returns-in_err-check_opening-clause-value
 returns-in_err-check_opening-clause-value c =
-    let p = err_from_is_err_and c.from_residual.result c.from_residual.ensures.1 in
-    rw (p.1, p.2) (open_refused c.args.book.now c.args.session.now _ c.in_err-check_opening.ensures).0
+    handed_on _ _ _ c.from_residual.ensures.1 (open_refused c.args.book.now c.args.session.now _ c.in_err-check_opening.ensures).0
 
 pub returns-in_err-check_opening-clause-session_after : goal.returns-in_err-check_opening-clause-session_after
 returns-in_err-check_opening-clause-session_after c = (open_refused c.args.book.now c.args.session.now _ c.in_err-check_opening.ensures).1
