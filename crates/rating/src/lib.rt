@@ -66,10 +66,7 @@ fn check_price(book: &[u32], session: &[u32], base: i64, lines: &[i32]) -> Resul
     ensures { result ≡ checked (price_refusal book.now session.now base lines.now) }
 {
     check_session(book, session)?;
-    if !base_within(base) {
-        return Err(Refusal::PriceInput);
-    }
-    if !list_within(book::variables(book), lines) {
+    if !base_within(base) || !list_within(book::variables(book), lines) {
         return Err(Refusal::PriceInput);
     }
     Ok(())

@@ -22,10 +22,10 @@ fn literal_of(number: i32) -> u32
 fn change_of(kind: i32, value: i32) -> Change
     ensures { result ≡ change_of kind value }
 {
-    if kind == 0 {
-        return Change::Amount(value);
+    match kind {
+        0 => Change::Amount(value),
+        _ => Change::Thousandths(value),
     }
-    Change::Thousandths(value)
 }
 
 fn is_kind(kind: i32) -> bool
