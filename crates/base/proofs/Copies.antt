@@ -4,7 +4,7 @@ use mathlib.Core.Path.{◌≡◌, refl, ap, ap₂, sym, ◌∙◌}
 use mathlib.Core.List.{List, [], ◌∷◌, ◌++◌, append_assoc}
 use native.Mathlib.Numerals.{add-one}
 use native.Mathlib.Omega.{arith}
-use lib.ListN.{length, get_or, take, drop, set, length-take, length-drop, length-append, drop_of_length-le}
+use lib.ListN.{length, get_or, take, drop, set, length-take, length-drop, length-append}
 use lib.Seq.{drop-cons, set_at, append_snoc, take-suc, length-take-le, take_all, take_at, drop_at, drop-drop, drop-append-add, take-nil}
 use Rattle.base.specs.Lists.{copied}
 use Rattle.base.proofs.Lists.{take_both}
@@ -43,16 +43,6 @@ module _ (source before now : List ℕ) (i : ℕ) (c : Copied source before now 
       ∙ ap₂ (λ (x y : List ℕ). x ++ y)
       (take_all i source h ∙ sym (take_all (length before) source (omega (arith, c.in_target))))
       (ap (λ (k : ℕ). drop k before) is_all)
-
-  pub copied_full : length before ≤ i → now ≡ copied source before
-  unfolding copied
-  copied_full h =
-      let is-full : i ≡ length before = omega (arith, c.in_target) in
-      let over : length before ≤ length source = omega (arith, c.in_source) in
-      c.is
-      ∙ ap₂ (λ (x y : List ℕ). x ++ y)
-      (ap (λ (k : ℕ). take k source) is-full)
-      (drop_of_length-le before h ∙ sym (drop_of_length-le before over))
 
 -- all of the source is copied, and more is put behind it
 pub copied_behind : (source before now more after : List ℕ) (at : ℕ) → Copied source before now (length source) → at ≡ length source → at + length more ≤ length before

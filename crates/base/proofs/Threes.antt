@@ -1,16 +1,14 @@
 -- Lists read three by three.
-use Prim.Native.Nat.{ℕ, suc, ◌+◌, ◌*◌, ◌%◌, ◌≤◌, ◌<◌}
-use mathlib.Core.Bool.{Bool, true, false, ◌&&◌, and-false}
+use Prim.Native.Nat.{ℕ, ◌*◌, ◌%◌, ◌≤◌, ◌<◌}
+use mathlib.Core.Bool.{Bool, true, false, ◌&&◌}
 use mathlib.Core.List.{List, [], ◌∷◌, ◌++◌}
-use mathlib.Core.Path.{◌≡◌, refl, sym, ap, ◌∙◌}
+use mathlib.Core.Path.{◌≡◌, refl, ap, ◌∙◌}
 use native.Mathlib.Omega.{arith}
-use borrow.Author.Tests.{eqb-true, eqb-false, leb-true, lt-leb, le-leb}
+use borrow.Author.Tests.{leb-true, lt-leb}
 use lib.Dec.{leb, eqb}
-use lib.ListN.{length, get_or, drop, length-drop, drop_of_length-le}
-use lib.Seq.{drop-cons}
-use Rattle.base.specs.Lists.{all, keep, by_three, all_threes}
+use lib.ListN.{length}
+use Rattle.base.specs.Lists.{all, by_three, all_threes}
 use Rattle.base.proofs.Bools.{never, and_parts}
-use Rattle.base.proofs.Counts.{count, one, one_most, count_first}
 
 -- A test of the threes, none of whose elements is left over:
 module _ {A : Type 0} (test : A → A → A → Bool) where

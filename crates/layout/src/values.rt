@@ -16,12 +16,6 @@ pub enum Value {
     False,
 }
 
-pub fn wide(x: u32) -> usize
-    ensures { result ≡ x }
-{
-    x as usize
-}
-
 // What is left of a number when it is halved, by a shift and a subtraction: 1 of a negative literal, of its entry and of the first node of a clause.
 pub fn parity(x: u32) -> u32
     ensures { result ≡ x % 2 }

@@ -48,14 +48,6 @@ module _ (book session : List ℕ) where
       go true false q = q
       go false p q = q
 
-  pub decision_first : (l n : ℕ) → n ≡ read_refusal book session → (n ≡ 0 → ⊥) → n ≡ session_decide_refusal book session l
-  unfolding session_decide_refusal
-  decision_first l = refused_first (decide_refusal (formula_of book) l)
-
-  pub back_refused_first : (k n : ℕ) → n ≡ read_refusal book session → (n ≡ 0 → ⊥) → n ≡ session_backtrack_refusal book session k
-  unfolding session_backtrack_refusal
-  back_refused_first k = refused_first (backtrack_refusal k)
-
   -- an accepted call was not refused by 11 and 12
   pub none_first : (own : Run → ℕ) → 0 ≡ call_refusal book session own → 0 ≡ read_refusal book session
   unfolding read_refusal call_refusal

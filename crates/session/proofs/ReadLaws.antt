@@ -57,10 +57,6 @@ module _ (book session : List ℕ) (ok : Ok tt ≡ checked (read_refusal book se
   none : 0 ≡ read_refusal book session
   none = passed _ tt ok
 
-  -- it is long enough
-  pub read_long : required_length (variables_of book) (clauses_of book) ≤ length session
-  read_long = p.long book session none
-
   pub read_header : (read_refusal book session ≡ 0) × (5 ≤ length session)
   read_header = (sym none, omega (arith, p.long book session none))
 

@@ -47,9 +47,6 @@ pub record Replaying (book calls opened session : List ℕ) (i : ℕ) : Type 0 w
   pub same_length : length session ≡ length opened
   pub same : played_numbers book session (calls_of (drop i calls)) ≡ played_numbers book opened (calls_of calls)
 
-pub replaying_none : (book calls opened : List ℕ) → Replaying book calls opened opened 0
-replaying_none book calls opened = record { within = omega arith; same_length = refl; same = refl }
-
 module _ (book calls opened session next : List ℕ) (i : ℕ) (r : Replaying book calls opened session i) (h : i + 1 < length calls) (l : length next ≡ length session) where
   step : (call : Call) → call_at calls i ≡ call → next ≡ call_numbers book session call
       → Replaying book calls opened next (i + 2)
