@@ -10,8 +10,12 @@ use Rattle.capi.proofs.tariff_quote.Goals as goal
 pub returns-in-Ok : goal.returns-in-Ok
 returns-in-Ok c =
     let told = sym c.in-Ok.is ∙ c.quote_script.ensures in
-    record { value = ap quote_code told; out_after = stored_more c.args.out.now (_ ∷ _ ∷ []) _ (stored_more c.args.out.now (_ ∷ []) _ (stored_more c.args.out.now [] _ (stored_none c.args.out.now) c.put.ensures) c.put-in-Ok.ensures) c.put-in-Ok-2.ensures
-          ∙ ap (λ (r : Result Quote Refusal). quote_after r c.args.out.now) told; ceiling_after = ap (λ (r : Result Quote Refusal). ceiling_after r c.args.ceiling.now) told }
+    record {
+      value = ap quote_code told;
+      out_after = stored_more c.args.out.now (_ ∷ _ ∷ []) _ (stored_more c.args.out.now (_ ∷ []) _ (stored_more c.args.out.now [] _ (stored_none c.args.out.now) c.put.ensures) c.put-in-Ok.ensures) c.put-in-Ok-2.ensures
+          ∙ ap (λ (r : Result Quote Refusal). quote_after r c.args.out.now) told;
+      ceiling_after = ap (λ (r : Result Quote Refusal). ceiling_after r c.args.ceiling.now) told;
+    }
 
 pub returns-in-Err : goal.returns-in-Err
 returns-in-Err c =
