@@ -52,12 +52,12 @@ fn answer_part(
     ensures { (held : ℕ) → result ≡ Ok held → (printed : List ℕ) × PartTaken book.now (holding session.old line.old kept out.old) bytes.now (holding session.new line.new held out.new) printed }
 {
     let mut held = kept;
-    let mut at = 0;
-    while at < bytes.len() {
-        let taken = dialog::take(book, session, line, held, &bytes[at..], out);
+    let mut rest = bytes;
+    while !rest.is_empty() {
+        let taken = dialog::take(book, session, line, held, rest, out);
         rt.write_all(&out[..taken.written])?;
         held = taken.kept;
-        at += taken.used;
+        rest = &rest[taken.used..];
     }
     Ok(held)
 }

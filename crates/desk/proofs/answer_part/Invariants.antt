@@ -1,12 +1,11 @@
-use Rattle.std.proofs.Common.{◌-◌, ◌≤◌, length, drop}
+use Rattle.std.proofs.Common.{length}
 use Rattle.dialog.specs.Program.{holding}
 use Rattle.dialog.proofs.PartLaws.{GoesOn}
 use Rattle.desk.proofs.answer_part.Given as goal
 
-abbrev pub invariant-loop-at : goal.invariant-loop-at
-invariant-loop-at g l =
-    (l.at ≤ length l.bytes)
-    × GoesOn l.book (holding l.initial.session l.initial.line l.kept l.initial.out) l.bytes (holding l.session l.line l.held l.out) (drop l.at l.bytes)
+abbrev pub invariant-loop-rest : goal.invariant-loop-rest
+invariant-loop-rest g l =
+    GoesOn l.book (holding l.initial.session l.initial.line l.kept l.initial.out) l.bytes (holding l.session l.line l.held l.out) l.rest
 
-abbrev pub decreases-loop-at : goal.decreases-loop-at
-decreases-loop-at g l = length l.bytes - l.at
+abbrev pub decreases-loop-rest : goal.decreases-loop-rest
+decreases-loop-rest g l = length l.rest
