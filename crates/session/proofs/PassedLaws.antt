@@ -18,12 +18,11 @@ use Rattle.book.proofs.PartLaws.{clauses_counted}
 use Rattle.book.proofs.WellFormedLaws.{well_formed_sound, well_formed_limited}
 use Rattle.run.specs.Trail.{place, literal_at, is_true, decisions, level}
 use Rattle.run.specs.Run.{Run, trail_behind}
-use Rattle.run.specs.Calls.{decide_refusal, backtrack_refusal}
 use Rattle.run.specs.Valid.{Valid}
 use Rattle.run.proofs.Propagation.{valid_structure}
 use Rattle.run.proofs.Validity.{trail_short}
 use Rattle.validation.specs.Validation.{passes, call_refusal, read_refusal}
-use Rattle.session.specs.Outcomes.{session_decide_refusal, session_backtrack_refusal, figures_answer, total_answer, copy_answer, copy_numbers}
+use Rattle.session.specs.Outcomes.{figures_answer, total_answer, copy_answer, copy_numbers}
 use Rattle.layout.specs.Encodes.{Encodes}
 use Rattle.layout.specs.Values.{value_read, value_in}
 use Rattle.engine.specs.Engine.{Holding}
