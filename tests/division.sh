@@ -11,9 +11,10 @@ trap 'rm -rf "$wrong"' EXIT
 
 # Both of these print the functions of a program: a line `function F`, `calls F G` for each function that it names, `divides F` where it does.
 
-# in_mir [--with F=OPERATOR]: of all crates that are built, in MIR; of the function F the last operator is taken for this one.
+# in_mir [--with F=OPERATOR]: of all crates that are built and of the library's core, in MIR; of the function F the last operator is taken for this one.
+core=$(dirname "$(rt doc)")/rlibs/core.rlib
 in_mir() {
-    python3 tests/division/mir.py built "$@" crates/*/out/rlib/*.rlib
+    python3 tests/division/mir.py built "$@" crates/*/out/rlib/*.rlib "$core"
 }
 
 # in_code FILE: of an object file or a library, in machine code. A call is a target by name or a relocation, but for constants and for the
@@ -74,7 +75,7 @@ written() {
     local tree=$wrong/$1 crate=$2 below part file starts=()
     shift 2
     mkdir -p "$tree/crates"
-    for below in base book run layout engine; do
+    for below in base refusals book run layout engine; do
         grep "^$below:" crates.txt >> "$tree/crates.txt"
         mkdir -p "$tree/crates/$below/out"
         for part in src specs proofs; do
@@ -155,19 +156,19 @@ written engine engine scan.rt engine::scan::next_position '' scan.rt engine::sca
 alike engine engine::scan::next_position engine::scan::scan_clause engine::visit::seek
 written halves layout values.rt layout::values::value_of 's,literal >> 1,literal / 2,' \
     values.rt layout::values::parity 's,x - 2 \* \(x >> 1\),x % 2,' \
-    offsets.rt layout::offsets::clause_of_node 's,\(wide\(node\) - 1\) >> 1,(wide(node) - 1) / 2,'
+    offsets.rt layout::offsets::clause_of_node 's,\(node as usize - 1\) >> 1,(node as usize - 1) / 2,'
 finds halves layout::values::value_of layout::values::value_of
 finds halves layout::values::parity layout::values::value_of
 finds halves layout::offsets::clause_of_node layout::offsets::clause_of_node
-written rests engine scan.rt engine::scan::next_position 's,^    0$,    (position + 1) % n,' \
-    scan.rt engine::scan::scan_clause 's,made \+= 1;,made /= 1;,' \
-    visit.rt engine::visit::seek 's,^    let c = clause_of_node\(node\);,    let c = clause_of_node(node) % 7;,'
+written rests engine scan.rt engine::scan::next_position 's,else \{ 0 \},else { (position + 1) % n },' \
+    scan.rt engine::scan::scan_clause 's,checks \+= 1;,checks /= 1;,' \
+    visit.rt engine::visit::seek 's,^    let c = clause_of_node\(walk.node\);,    let c = clause_of_node(walk.node) % 7;,'
 finds rests engine::scan::next_position engine::decide
 finds rests engine::scan::scan_clause engine::decide
 finds rests engine::visit::seek engine::open
-written floats engine scan.rt engine::scan::next_position 's,^        return position \+ 1;,        let half: f64 = 3.0 / 2.0;\n&,'
+written floats engine scan.rt engine::scan::next_position 's,^    if position \+ 1 < n,    let half: f64 = 3.0 / 2.0;\n&,'
 finds floats engine::scan::next_position engine::decide
-written harmless engine scan.rt engine::scan::next_position 's,^        return position \+ 1;,        return (position \& 255) + ((position | 1) ^ (position << 1)) - (position >> 1);,'
+written harmless engine scan.rt engine::scan::next_position 's,\{ position \+ 1 \},{ (position \& 255) + ((position | 1) ^ (position << 1)) - (position >> 1) },'
 finds harmless engine::scan::next_position engine::decide ''
 finds_code inner c -ffunction-sections <<< 'unsigned inner(unsigned a, unsigned b) { return a % b; } unsigned outer(unsigned a, unsigned b) { return inner(a, b) + 1; }'
 finds_code inner c <<< 'static unsigned inner(unsigned a, unsigned b) { return a / b; } unsigned outer(unsigned a, unsigned b) { return inner(a, b) + 1; }'

@@ -82,7 +82,7 @@ limits_of_the_crates() {
 }
 
 limit() {
-    sed -nE "s/^(pub )?const $1: (usize|u32|u64) = ([0-9]+);/\\3/p" "$limits" "$chapters" "${rating[@]}" "$bands" "$packed"
+    sed -nE "s/^(pub )?const $1: (usize|u32|u64|i64) = ([0-9]+);/\\3/p" "$limits" "$chapters" "${rating[@]}" "$bands" "$packed"
 }
 
 # A macro under the name of a function is none of the limits, and stands out.

@@ -6,7 +6,8 @@ usage: mir.py built [--with F=OPERATOR] RLIB..     the library's MIR, as a progr
        mir.py written CRATE FOLDER RLIB..          the same as text, also of a function that no proof covers; the libraries are those below the crate
 
 --with: the last operator of the function F is taken for this one. An operator that is not listed here counts as a division, those on floats and on vectors among them, and so
-does a step that is not, where it stands at the top of a body; a call whose function is not named counts as one of a function that is not there.
+does a step that is not, where it stands at the top of a body; a call whose function is not named counts as one of a function that is not there. A generic
+function calls the methods of what its caller hands in, which count as the caller's: every function of each impl that it hands in.
 """
 
 import json
@@ -52,7 +53,7 @@ class Function:
             print("divides", self.name)
 
 
-def built(name, body):
+def built(name, body, methods):
     it = Function(name)
     for step in body:
         if head(step) not in (*STEPS, "Assign", "Call"):
@@ -62,11 +63,25 @@ def built(name, body):
             it.operators.append(plain(head(below[0])))
         elif tag == "Assign" and head(below[1]) not in (*VALUES, "Op2"):
             it.divides = True
+        elif tag == "Call" and head(below[0]) == "Method" and head(below[0]["Method"][0]) == "Given":
+            pass
         elif tag == "Call" and head(below[0]) != "Fn":
             it.calls.append("by-" + head(below[0]))
         elif tag == "Fn":
             it.calls.append(below[0])
+            for handed in below[1]["dicts"]:
+                it.calls += methods_of(handed, methods)
     return it
+
+
+def methods_of(handed, methods):
+    """The functions of an impl that a call hands in; what the caller was given itself counts as its caller's, and `Destruct++none` drops nothing."""
+    if head(handed) == "Given":
+        return []
+    name = handed["Impl"][0] if head(handed) == "Impl" else ""
+    if name.endswith("::Destruct++none"):
+        return []
+    return methods.get(name) or ["by-" + (name or head(handed))]
 
 
 def written(name, text, below):
@@ -100,12 +115,15 @@ def main(kind, *words):
                     written("::".join([crate, *os.path.relpath(at, top).split("/")[:-1]]), file.read(), below).say()
         return
     with_operator = dict([words[1].split("=")]) if words[0] == "--with" else {}
-    for rlib in words[2 if with_operator else 0 :]:
-        for name, body in functions_of(rlib):
-            it = built(name, body)
-            if name in with_operator:
-                it.operators[-1] = plain(with_operator[name])
-            it.say()
+    functions = [one for rlib in words[2 if with_operator else 0 :] for one in functions_of(rlib)]
+    methods = {}
+    for name, _ in functions:
+        methods.setdefault(name.rpartition("::")[0], []).append(name)
+    for name, body in functions:
+        it = built(name, body, methods)
+        if name in with_operator:
+            it.operators[-1] = plain(with_operator[name])
+        it.say()
 
 
 if __name__ == "__main__":

@@ -73,12 +73,13 @@ first_factor (band ∷ bands) = band.factor
 unfoldable pub factor_at : ℕ → List Band → ℕ
 factor_at age bands = first_factor (bands_at age bands)
 
--- For a call that prices: 19, an age over 120 or a table reported as false; then 25, an age lies in no band, or 26, in several, whatever the age; else the factor of the age.
+-- What a fault of the table refuses a call that prices by: 19, reported as false; 25, an age lies in no band; 26, in several.
 abbrev pub refused_by : TableFault → Refusal
 refused_by Malformed = PriceInput
 refused_by (Gap age) = AgeGap
 refused_by (Overlap age) = AgeOverlap
 
+-- For a call that prices: 19 for an age over 120 or a table reported as false; then 25 or 26, whatever the age; else the factor of the age.
 abbrev pub factor_by : ℕ → List Band → Result ⊤ TableFault → Result ℕ Refusal
 factor_by age bands (Ok good) = Ok (factor_at age bands)
 factor_by age bands (Err fault) = Err (refused_by fault)

@@ -3,11 +3,10 @@ use Prim.Native.Nat.{ℕ, ◌+◌, ◌*◌, ◌/◌, ◌%◌}
 use native.Mathlib.Omega.{arith}
 use mathlib.Core.List.{List}
 use mathlib.Core.Logic.{inl, inr}
-use mathlib.Core.Path.{◌≡◌, refl, ap, sym, ◌∙◌}
+use mathlib.Core.Path.{◌≡◌, refl, ap}
 use Rattle.std.specs.Prelude.{Result, Ok, Err}
 use Rattle.refusals.specs.declared.Refusal.{Refusal}
-use Rattle.refusals.specs.Refusals.{number_of, refusal_of}
-use Rattle.refusals.proofs.OutcomeLaws.{refusal_number}
+use Rattle.refusals.specs.Refusals.{number_of}
 use Rattle.session.specs.Outcomes.{lookup_answer}
 use Rattle.session.specs.declared.Assigned.{Assigned}
 use Rattle.session.specs.declared.Assigned.TheVariants.{Open, Positive, Negative}
@@ -32,4 +31,4 @@ lookup_told book session v = go (lookup_answer book session v) refl
     go (Err r) e =
         let few = refused_shown book session v r e in
         let apart : number_of r ≡ (2 * 4294967296 + number_of r) % 4294967296 = omega arith in
-        record { accepted = λ small. absurd (omega arith); refused = λ large. (omega arith, ap Err (sym (refusal_number r) ∙ ap refusal_of apart)) }
+        record { accepted = λ small. absurd (omega arith); refused = λ large. (omega arith, (r, refl, apart)) }

@@ -2,7 +2,7 @@
 use Rattle.std.specs.Prelude.{ℕ, ◌+◌, ◌*◌, ◌/◌, ◌%◌, ◌≤◌, ◌<◌, ◌≡◌, ◌⊎◌, true, false, Bool, List, [], ◌∷◌, ℤ, Result, Ok, Err, ⊤}
 use Rattle.base.specs.Lists.{copied}
 use Rattle.refusals.specs.declared.Refusal.{Refusal}
-use Rattle.refusals.specs.Refusals.{number_of, refusal_of}
+use Rattle.refusals.specs.Refusals.{number_of}
 use Rattle.session.specs.declared.Propagated.{Propagated}
 use Rattle.session.specs.declared.Propagated.TheVariants as propagated
 use Rattle.session.specs.declared.Assigned.{Assigned}
@@ -55,7 +55,7 @@ pub record LookupTold (code : ℕ) (answer : Result Assigned Refusal) : Type 0 w
       → (code ≤ 2002)
       × (((code ≡ 0) × (answer ≡ Ok assigned.Open))
       ⊎ (((code % 4 ≡ 1) × (answer ≡ Ok (assigned.Positive (code / 4)))) ⊎ ((code % 4 ≡ 2) × (answer ≡ Ok (assigned.Negative (code / 4))))))
-  pub refused : 4294967296 ≤ code → (code / 4294967296 ≡ 2) × (answer ≡ Err (refusal_of (code % 4294967296)))
+  pub refused : 4294967296 ≤ code → (code / 4294967296 ≡ 2) × ((refusal : Refusal) × (answer ≡ Err refusal) × (number_of refusal ≡ code % 4294967296))
 
 -- the figures are four numbers: decisions in force, accepted backtracks, trail length, the conflict clause's name (0 out of conflict).
 -- What fits of them is copied, as of the trail, and a refusal leaves the lent numbers

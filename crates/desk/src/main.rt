@@ -79,7 +79,7 @@ fn answer_some(
     }
 }
 
-// Answers the script, then prints the last line.
+// Answers the script, then prints the last line. A proved loop has to end, so it goes over more turns than any run makes.
 fn answer_script(
     rt: &(impl Input + Print),
     book: &[u32],

@@ -41,7 +41,7 @@ max_back_lines = 1000000
 abbrev pub quoted_ceiling : List ℕ → List ℕ → ℕ
 quoted_ceiling book script = worst (formula_of book) * (back_lines script + 1)
 
--- The answer: 11 for book numbers at fault, 17 for more lines than that; else the session's length in numbers, W, b and the quoted ceiling.
+-- A quote: the session's length in numbers, W, b and the quoted ceiling.
 abbrev pub quote_of : List ℕ → List ℕ → Quote
 quote_of book script =
     record {
@@ -51,6 +51,7 @@ quote_of book script =
       ceiling = quoted_ceiling book script;
     }
 
+-- The answer: 11 for book numbers at fault, 17 for more lines than that; else the quote.
 unfoldable pub quote_answer : List ℕ → List ℕ → Result Quote Refusal
 quote_answer book script = outcome (cond (well_formed book) (cond (ltb max_back_lines (back_lines script)) 17 0) 11) (quote_of book script)
 

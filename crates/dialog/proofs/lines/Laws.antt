@@ -1,26 +1,14 @@
 -- A line that is kept in a buffer.
-use Prim.Native.Nat.{ℕ, min, ◌+◌, ◌-◌, ◌≤◌, ◌<◌}
-use mathlib.Core.Path.{◌≡◌, refl, sym, ◌∙◌}
+use Prim.Native.Nat.{ℕ, ◌+◌, ◌-◌, ◌≤◌, ◌<◌}
+use mathlib.Core.Path.{◌≡◌, sym, ◌∙◌}
 use mathlib.Core.List.{List, [], ◌++◌, append-nil}
 use native.Mathlib.Omega.{arith}
 use lib.ListN.{length, take, drop, length-take, length-drop, drop_of_length-le}
 use lib.Seq.{take_all, drop-nil}
-use Rattle.std.proofs.lemmas.List.{take_min, drop_min}
-use Rattle.std.proofs.Math.Nat.{min_comm}
 use Rattle.base.specs.Lists.{copied}
 use Rattle.base.proofs.Lists.{tail_whole, tail_back}
 use Rattle.script.specs.Buffer.{fitting}
 use Rattle.dialog.specs.Taking.{kept_after, line_after}
-
--- as many bytes as fit, at the front of a buffer
-module _ (bytes buffer : List ℕ) (n : ℕ) (is : n ≡ min (length buffer) (length bytes)) where
-  pub front_count : n ≡ fitting bytes buffer
-  unfolding fitting
-  front_count = is ∙ sym (length-take (length buffer) bytes)
-
-  pub front_copied : (part : List ℕ) → part ≡ take n bytes → part ++ drop n buffer ≡ copied bytes buffer
-  unfolding copied
-  front_copied part e = rw (e, is, take_min (length buffer) bytes, min_comm (length buffer) (length bytes), drop_min (length bytes) buffer) refl
 
 -- bytes that are stored in the part of the buffer behind those that are kept
 module _ (line : List ℕ) (kept : ℕ) (bytes part : List ℕ) (r : ℕ) (count : r ≡ fitting bytes (take (length line - kept) (drop kept line)))
