@@ -1,10 +1,16 @@
 -- A list whose front part is copied from another list: as a loop that copies meets it, and the laws of `copied`.
-use Prim.Native.Nat.{ℕ, suc, ◌+◌, ◌-◌, ◌≤◌, ◌<◌}
+use Prim.Native.Nat.{ℕ, suc, ◌+◌, ◌-◌, ◌≤◌, ◌<◌, min}
 use mathlib.Core.Path.{◌≡◌, refl, ap, ap₂, sym, ◌∙◌}
+use mathlib.Core.Bool.{Bool, true, false}
 use mathlib.Core.List.{List, [], ◌∷◌, ◌++◌, append_assoc}
 use native.Mathlib.Numerals.{add-one}
 use native.Mathlib.Omega.{arith}
-use lib.ListN.{length, get_or, take, drop, set, length-take, length-drop, length-append}
+use lib.Dec.{ltb}
+use borrow.Author.Tests.{ltb-true, ltb-false}
+use lib.ListN.{length, get_or, take, drop, set, length-take, length-drop, length-append, drop_of_length-le}
+use Rattle.std.proofs.lemmas.List.{take_more_set, take_more, drop-set-lt, take-append-drop}
+use Rattle.std.proofs.lemmas.Grind.{drop_more_same}
+use Rattle.std.specs.Ordering.{nat_cmp, ord_min}
 use lib.Seq.{drop-cons, set_at, append_snoc, take-suc, length-take-le, take_all, take_at, drop_at, drop-drop, drop-append-add, take-nil}
 use Rattle.base.specs.Lists.{copied}
 use Rattle.base.proofs.Lists.{take_both}
@@ -110,3 +116,34 @@ stored_none buffer = rw (take-nil {A = ℕ} (length buffer))
 pub stored_more : (buffer source : List ℕ) (x : ℕ) {now after : List ℕ} → now ≡ copied source buffer → after ≡ set now (length source) x
     → after ≡ copied (source ++ (x ∷ [])) buffer
 stored_more buffer source x is stored = stored ∙ rw is (copy_store source buffer x)
+
+-- the lesser of two numbers, as `min` of std::cmp has it
+pub lesser : (x y : ℕ) → ord_min nat_cmp x y ≡ min y x
+lesser x y = grind arith
+
+-- elements stored one by one: the first i are the source's, the rest is as it was
+module _ {A : Type 0} (source before : List A) where
+  abbrev pub Stored : List A → ℕ → Type 0
+  Stored now i = (take i now ≡ take i source) × (drop i now ≡ drop i before)
+
+  pub element_stored : (now : List A) (i : ℕ) (x : A) → i < length source → i < length now → x ≡ get_or source i x → Stored now i → Stored (set now i x) (i + 1)
+  element_stored now i x h k is s = (
+    take_more_set now i x k ∙ ap₂ (λ (l : List A) (y : A). l ++ (y ∷ [])) s.0 is ∙ sym (take_more source i x h),
+    drop-set-lt (i + 1) now i x (omega arith) ∙ drop_more_same now before i s.1,
+  )
+
+  pub elements_stored : (now : List A) (i : ℕ) → i ≡ min (length before) (length source) → Stored now i → now ≡ copied source before
+  unfolding copied
+  elements_stored now i e s =
+      let parts : now ≡ take i source ++ drop i before = sym (take-append-drop i now) ∙ ap₂ (λ (l r : List A). l ++ r) s.0 s.1 in
+      parts ∙ go (ltb (length before) (length source)) refl
+    where
+      go : (b : Bool) → ltb (length before) (length source) ≡ b → take i source ++ drop i before ≡ take (length before) source ++ drop (length source) before
+      go true q =
+          let over : length before < length source = ltb-true (length before) (length source) q in
+          let full : i ≡ length before = omega (arith, over) in
+          rw (full, drop_of_length-le before {i = length before} (omega arith), drop_of_length-le before {i = length source} (omega (arith, over))) refl
+      go false q =
+          let within : length source ≤ length before = ltb-false (length before) (length source) q in
+          let whole : i ≡ length source = omega (arith, within) in
+          rw (whole, take_all (length source) source (omega arith), take_all (length before) source within) refl

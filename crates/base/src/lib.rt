@@ -13,6 +13,8 @@ pub fn copy_fitting<T: Copy>(source: &[T], out: &mut [T]) -> usize
     ensures out_after { out.new ≡ copied source.now out.old }
 {
     let fitting = min(source.len(), out.len());
-    out[..fitting].copy_from_slice(&source[..fitting]);
+    for i in 0..fitting {
+        out[i] = source[i];
+    }
     fitting
 }

@@ -30,7 +30,7 @@ fn add_up(counts: &[u32], chapters: &[u32], totals: &mut [u64])
     requires totals_value { chapters_fit (length counts.now) chapters.now (length totals.old) ≡ true }
     ensures { totals.new ≡ chapter_totals counts.now chapters.now ++ drop chapter_count totals.old }
 {
-    totals[..CHAPTERS].fill(0);
+    totals[0..CHAPTERS].fill(0);
     for (count, chapter) in counts.iter().zip(chapters) {
         totals[*chapter as usize] += u64::from(*count);
     }

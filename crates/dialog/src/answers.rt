@@ -48,7 +48,10 @@ pub(crate) fn open(book: &[u32], session: &mut [u32], out: &mut [u8]) -> Started
     match session::open(book, session) {
         Ok(propagated) => {
             let written = show_propagated(book, session, Cause::Opening, propagated, out);
-            Started::Open(written)
+            match propagated {
+                Propagated::Implied(_) => Started::Open(written),
+                Propagated::Conflict(_) => Started::Open(written),
+            }
         }
         Err(refusal) => Started::Refused(script::write_refused(refusal.number(), out)),
     }

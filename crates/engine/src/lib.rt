@@ -26,7 +26,7 @@ pub fn open(book: &[u32], session: &mut [u32])
     ensures { Becomes book.now session.old session.new (runs.open_run (formula_of book.now)) }
 {
     let needed = required_length(book::variables(book), book::clauses(book));
-    session[..needed].fill(0);
+    session[0..needed].fill(0);
     opening::watch_all(book, session);
     opening::assign_units(book, session);
     propagate(book, session, 0);

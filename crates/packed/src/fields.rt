@@ -5,7 +5,7 @@ ghost use Rattle.packed.specs.Inner.Reading.{number_in, closed_by};
 
 use crate::MAX_BYTES;
 use refusals::Refusal;
-use signed::with_sign;
+use signed::{size_of, with_sign};
 
 // The sign nibbles (`plus`, `minus`, `other_plus`): the third is only read.
 const PLUS: u8 = 12;
@@ -13,6 +13,17 @@ const PLUS: u8 = 12;
 const MINUS: u8 = 13;
 
 const OTHER_PLUS: u8 = 15;
+
+// 10 to the number of digits of a field, for 1 to 7 bytes.
+const LIMITS: [u64; 7] = [
+    10,
+    1000,
+    100000,
+    10000000,
+    1000000000,
+    100000000000,
+    10000000000000,
+];
 
 // A field has 1 to 7 bytes.
 #[tactic(auto, unfolding(crate::specs::Packed::length_within))]
@@ -28,7 +39,7 @@ fn limit(bytes: usize) -> u64
     requires { length_within bytes ≡ true }
     ensures { result ≡ 10 ^ digits_in bytes }
 {
-    10u64.pow(2 * bytes as u32 - 1)
+    LIMITS[bytes - 1]
 }
 
 // A value within the digits of a field.
@@ -37,7 +48,7 @@ pub(crate) fn value_within(bytes: usize, value: i64) -> bool
     requires { length_within bytes ≡ true }
     ensures { result ≡ value_within bytes value }
 {
-    value.unsigned_abs() < limit(bytes)
+    size_of(value) < limit(bytes)
 }
 
 // Why a field is not written, if it is not.
@@ -72,7 +83,7 @@ pub(crate) fn put_field(value: i64, out: &mut [u8])
     requires { 1 ≤ length out.old }
     ensures { out.new ≡ field_of (length out.old) value }
 {
-    let size = value.unsigned_abs();
+    let size = size_of(value);
     let last = out.len() - 1;
     out[last] = (size % 10 * 16) as u8 + sign_of(value);
     let mut rest = size / 10;

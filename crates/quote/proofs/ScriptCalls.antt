@@ -1,26 +1,25 @@
--- The calls of a script: as many of them are backtracks as the script has lines of the form `b k`, and the script program makes just these calls.
-use Prim.Native.Nat.{ℕ, zero, suc, ◌+◌, ◌≤◌}
+-- The calls of a script: as many of them are backtracks as the script has lines of the form `b k`, and the script program makes just these calls. And what
+-- the loop that counts these lines knows.
+use Prim.Native.Nat.{ℕ, zero, suc, ◌+◌, ◌-◌, ◌≤◌, ◌<◌}
 use mathlib.Core.Path.{◌≡◌, refl, sym, ap, ◌∙◌}
 use mathlib.Core.Bool.{Bool, true, false, cond}
-use mathlib.Core.Logic.{◌⊎◌, inl, inr, ⊎_elim}
 use mathlib.Core.List.{List, [], ◌∷◌, ◌++◌, map, append_assoc}
 use Rattle.std.specs.Prelude.{Option, Some, None}
 use native.Mathlib.Omega.{arith}
-use lib.ListN.{length, take}
-use lib.Dec.{eqb}
-use Rattle.std.specs.List.{slice_split, onto_first, filter}
+use lib.ListN.{length, take, drop, length-drop, drop_of_length-le}
+use lib.Seq.{drop-drop}
 use Rattle.base.specs.Lists.{keep, flat}
+use Rattle.base.proofs.Until.{take-until, until_within}
 use Rattle.book.specs.Formula.{Formula}
-use Rattle.book.specs.Reading.{onto}
 use Rattle.book.specs.Text.{line_end}
 use Rattle.run.specs.Run.{Run, open_run}
 use Rattle.run.specs.Calls.{Call, decision, backtrack_by, fix_by, step_all, reference}
 use Rattle.run.specs.Ceiling.{backtracks_asked}
 use Rattle.script.specs.declared.Line.{Line}
 use Rattle.script.specs.declared.Line.TheVariants.{Choose, Back}
-use Rattle.script.specs.Script.{script_lines, line_of}
+use Rattle.script.specs.Script.{script_lines, line_bytes, line_of}
 use Rattle.script.specs.Desk.{end_line_of, answer_to, step_of, answers_to}
-use Rattle.script.proofs.ScriptLaws.{lines_parted}
+use Rattle.script.proofs.ScriptLaws.{lines_first, lines_parted}
 use Rattle.quote.specs.Quote.{line_calls, script_calls, is_back, back_lines}
 
 -- the calls and the lines of the form `b k` of so many lines
@@ -105,52 +104,46 @@ unfolding back_lines
 back_lines_part first rest =
     omega (arith, ap lines_backs (lines_parted first rest), backs_append (script_lines (first ++ (10 ∷ []))) (script_lines rest))
 
--- What stands between the bytes 10: the lines, and one empty part more where nothing stands behind the last byte 10.
-abbrev parts : List ℕ → List (List ℕ)
-parts script = slice_split (λ (byte : ℕ). eqb byte 10) script
+-- What the loop over the lines knows at a place: `count` of the lines before it are of the form `b k`.
+pub record BacksBefore (script : List ℕ) (count at : ℕ) : Type 0 where
+  pub few : count ≤ at
+  pub rest : count + back_lines (drop at script) ≡ back_lines script
 
-before_first : (byte : ℕ) (lines : List (List ℕ)) → onto_first byte lines ≡ onto byte lines
-unfolding onto
-before_first byte [] = refl
-before_first byte (line ∷ lines) = refl
+pub backs_none : (script : List ℕ) → BacksBefore script 0 0
+backs_none script = record { few = omega arith; rest = omega arith }
 
-before_last : (byte : ℕ) (lines : List (List ℕ))
-    → (onto byte (lines ++ ([] ∷ [])) ≡ onto byte lines) ⊎ (onto byte (lines ++ ([] ∷ [])) ≡ onto byte lines ++ ([] ∷ []))
-unfolding onto
-before_last byte [] = inl refl
-before_last byte (line ∷ lines) = inr refl
+pub backs_all : (script : List ℕ) (count at : ℕ) → BacksBefore script count at → length script ≤ at → count ≡ back_lines script
+unfolding back_lines script_lines keep
+backs_all script count at r h =
+    let none : lines_backs (script_lines (drop at script)) ≡ 0 = ap (λ (l : List ℕ). lines_backs (script_lines l)) (drop_of_length-le script h) in
+    omega (arith, r.rest)
 
-parts_are : (script : List ℕ) → (parts script ≡ script_lines script) ⊎ (parts script ≡ script_lines script ++ ([] ∷ []))
-unfolding script_lines line_end
-parts_are [] = inr refl
-parts_are (byte ∷ script) = go (eqb byte 10) (parts_are script)
-  where
-    go : (e : Bool) → (parts script ≡ script_lines script) ⊎ (parts script ≡ script_lines script ++ ([] ∷ []))
-        → (cond e ([] ∷ parts script) (onto_first byte (parts script)) ≡ cond e ([] ∷ script_lines script) (onto byte (script_lines script)))
-        ⊎ (cond e ([] ∷ parts script) (onto_first byte (parts script)) ≡ cond e ([] ∷ script_lines script) (onto byte (script_lines script)) ++ ([] ∷ []))
-    go true (inl same) = inl (ap (λ (lines : List (List ℕ)). [] ∷ lines) same)
-    go true (inr more) = inr (ap (λ (lines : List (List ℕ)). [] ∷ lines) more)
-    go false (inl same) = inl (before_first byte (parts script) ∙ ap (onto byte) same)
-    go false (inr more) =
-        let is : onto_first byte (parts script) ≡ onto byte (script_lines script ++ ([] ∷ [])) = before_first byte (parts script) ∙ ap (onto byte) more in
-        ⊎_elim (λ e. inl (is ∙ e)) (λ e. inr (is ∙ e)) (before_last byte (script_lines script))
+-- a line from `at` to `end`
+module _ (script : List ℕ) (at end : ℕ) (h : at < length script) (ends : end ≡ at + length (line_bytes (drop at script))) where
+  pub line_within_lem : end ≤ length script
+  line_within_lem = omega (arith, until_within line_end script at (omega arith))
 
-kept : (lines : List (List ℕ)) → length (filter (λ (line : List ℕ). is_back (line_of line)) lines) ≡ lines_backs lines
-unfolding keep
-kept [] = refl
-kept (line ∷ lines) = go (is_back (line_of line)) (kept lines)
-  where
-    backs : List (List ℕ)
-    backs = keep (λ (l : List ℕ). is_back (line_of l)) lines
+  line_is : take (end - at) (drop at script) ≡ line_bytes (drop at script)
+  line_is =
+      let size : end - at ≡ length (line_bytes (drop at script)) = omega arith in
+      rw size (take-until line_end (drop at script))
 
-    go : (b : Bool) → length (filter (λ (l : List ℕ). is_back (line_of l)) lines) ≡ length backs
-        → length (cond b (line ∷ filter (λ (l : List ℕ). is_back (line_of l)) lines) (filter (λ (l : List ℕ). is_back (line_of l)) lines)) ≡ length (cond b (line ∷ backs) backs)
-    go true h = omega arith
-    go false h = h
+  counts : back_lines (drop at script) ≡ one (is_back (line_of (take (end - at) (drop at script)))) + back_lines (drop (end + 1) script)
+  unfolding back_lines
+  counts =
+      let some : 0 < length (drop at script) = rw (length-drop at script) (omega arith) in
+      let behind : at + suc (length (line_bytes (drop at script))) ≡ end + 1 = omega arith in
+      ap lines_backs (lines_first (drop at script) some)
+      ∙ backs_first (line_bytes (drop at script)) (script_lines (drop (suc (length (line_bytes (drop at script)))) (drop at script)))
+      ∙ rw (line_is, drop-drop (suc (length (line_bytes (drop at script)))) at script, behind)
 
--- So as many of the parts are of the form `b k` as of the lines.
-pub backs_in_parts : (script : List ℕ) → length (filter (λ (line : List ℕ). is_back (line_of line)) (parts script)) ≡ back_lines script
-unfolding back_lines keep is_back line_of
-backs_in_parts script =
-    kept (parts script)
-    ∙ ⊎_elim (ap lines_backs) (λ more. ap lines_backs more ∙ backs_append (script_lines script) ([] ∷ []) ∙ omega arith) (parts_are script)
+  module _ (count : ℕ) (r : BacksBefore script count at) where
+    pub back_counted : true ≡ is_back (line_of (take (end - at) (drop at script))) → BacksBefore script (count + 1) (end + 1)
+    back_counted e =
+        let is : back_lines (drop at script) ≡ one true + back_lines (drop (end + 1) script) = rw (← e) at counts in
+        record { few = omega (arith, r.few); rest = omega (arith, r.rest) }
+
+    pub other_passed : false ≡ is_back (line_of (take (end - at) (drop at script))) → BacksBefore script count (end + 1)
+    other_passed e =
+        let is : back_lines (drop at script) ≡ one false + back_lines (drop (end + 1) script) = rw (← e) at counts in
+        record { few = omega (arith, r.few); rest = omega (arith, r.rest) }

@@ -7,7 +7,6 @@ ghost use Rattle.quote.specs.Quote.{is_back, back_lines, quote_answer};
 
 use layout::ceiling::worst;
 use refusals::Refusal;
-use script::LINE_END;
 
 // The most lines of the form `b k` in a script that is quoted for (`max_back_lines`).
 const MAX_BACK_LINES: usize = 1_000_000;
@@ -33,10 +32,16 @@ fn is_back(line: &[u8]) -> bool
 fn back_lines(script: &[u8]) -> usize
     ensures { result ≡ back_lines script.now }
 {
-    script
-        .split(|byte| *byte == LINE_END)
-        .filter(|line| is_back(line))
-        .count()
+    let mut count = 0;
+    let mut at = 0;
+    while at < script.len() {
+        let end = at + script::line_end(&script[at..]);
+        if is_back(&script[at..end]) {
+            count += 1;
+        }
+        at = end + 1;
+    }
+    count
 }
 
 // Quotes for a session on a book and the script that is to be run there.

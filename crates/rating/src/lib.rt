@@ -115,6 +115,8 @@ pub fn price_for_age(
     ensures { result ≡ age_answer book.now session.now base table.now age lines.now }
 {
     check_price(book, session, base, lines)?;
-    let factor = bands::factor_at(table, age)?;
-    premium_of(Passed::new(book, session), scaled(base, factor), lines)
+    match bands::factor_at(table, age) {
+        Ok(factor) => premium_of(Passed::new(book, session), scaled(base, factor), lines),
+        Err(refusal) => Err(refusal),
+    }
 }

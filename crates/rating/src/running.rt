@@ -13,6 +13,7 @@ use crate::Change;
 use crate::cents::to_cents;
 use crate::lines::{line_of, threes};
 use layout::values::{Value, literal_value};
+use signed::size_of;
 
 // The limit of the running amount, on either side of zero (`max_running`).
 const MAX_RUNNING: u64 = 1000000000000;
@@ -32,7 +33,7 @@ fn applied(running: i64, change: Change) -> i64
 fn limited(running: i64) -> Option<i64>
     ensures { result ≡ pricing.limited running }
 {
-    if running.unsigned_abs() > MAX_RUNNING {
+    if size_of(running) > MAX_RUNNING {
         return None;
     }
     Some(running)

@@ -28,6 +28,9 @@ numbered_as asks digits = go (unsigned digits)
     go true = refl
     go false = refl
 
+pub numbered_value : (asks : ℕ → Line) (digits : List ℕ) (v : ℕ) → Some v ≡ digits_of digits → numbered asks digits ≡ Some (asks v)
+numbered_value asks digits v e = sym (numbered_as asks digits) ∙ ap (option_map asks) (sym e)
+
 pub numbered_long : (asks : ℕ → Line) (digits : List ℕ) → 9 < length digits → numbered asks digits ≡ None
 numbered_long asks digits h = sym (ap (option_map asks) (word_too_long digits h) ∙ numbered_as asks digits)
 

@@ -1,2 +1,3 @@
 -- The laws of `signed`.
+mod Operations
 pub mod Sizes

@@ -1,7 +1,15 @@
-// Signed numbers on the machine: their size, and a size with a sign.
+// Signed numbers on the machine: their size, a size with a sign, wider ones, sums and products.
 #![tactic(auto)]
 
-ghost use Rattle.std.specs.Prelude.{◌≡◌, cond, ◌<◌, pos, neg_ℤ, nat_abs};
+ghost use Rattle.std.specs.Prelude.{◌≡◌, cond, ◌<◌, pos, neg_ℤ, nat_abs, ◌+ℤ◌, ◌*ℤ◌};
+ghost use Rattle.std.specs.Int.{w64};
+ghost use Rattle.std.proofs.Common.{SFits};
+
+pub fn widened(x: i32) -> i64
+    ensures { result ≡ x }
+{
+    i64::from(x)
+}
 
 // The size of a number, the least one too: that is never negated.
 pub fn size_of(x: i64) -> u64
@@ -17,4 +25,19 @@ pub fn with_sign(size: u64, minus: bool) -> i64
 {
     let x = size as i64;
     if minus { 0 - x } else { x }
+}
+
+// A product and a sum, where they fit.
+pub fn product(a: i64, b: i64) -> i64
+    requires { SFits w64 (a *ℤ b) }
+    ensures { result ≡ a *ℤ b }
+{
+    a * b
+}
+
+pub fn sum(a: i64, b: i64) -> i64
+    requires { SFits w64 (a +ℤ b) }
+    ensures { result ≡ a +ℤ b }
+{
+    a + b
 }

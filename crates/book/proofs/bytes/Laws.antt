@@ -1,5 +1,5 @@
 -- The digits of a word as the loop over its bytes meets them, and the token of a word by its first byte.
-use Prim.Native.Nat.{ℕ, ◌+◌, ◌*◌, ◌-◌, ◌^◌, ◌≤◌, ◌<◌}
+use Prim.Native.Nat.{ℕ, suc, ◌+◌, ◌*◌, ◌-◌, ◌^◌, ◌≤◌, ◌<◌}
 use mathlib.Core.Path.{◌≡◌, refl, ap, sym, ◌∙◌}
 use mathlib.Core.Bool.{Bool, true, false, cond}
 use mathlib.Core.List.{List, [], ◌∷◌}
@@ -14,11 +14,34 @@ use Rattle.std.specs.List.{take_while}
 use Rattle.std.specs.Prelude.{not}
 use Rattle.std.proofs.lemmas.List.Sums.{take_while-cons}
 use Rattle.base.specs.Lists.{until, all}
+use Rattle.base.proofs.Until.{until_none, until_stop, until_more}
 use Rattle.book.specs.Text.{Token, decimal, is_digit, unsigned, literal, close, invalid, negative_token, unsigned_token, token_of}
 use Rattle.book.specs.Answer.{digits_of}
 use Rattle.book.specs.Formula.{positive, negative}
 use Rattle.std.specs.Prelude.{Option, Some, None}
 use Rattle.book.proofs.DecimalLaws.{digit_true, digit_false, unsigned_false}
+
+-- Up to i no byte from `at` on passes the test.
+pub record Running (stop : ℕ → Bool) (text : List ℕ) (at i : ℕ) : Type 0 where
+  pub ahead : at ≤ i
+  pub within : i ≤ length text
+  pub same_end : i + length (until stop (drop i text)) ≡ at + length (until stop (drop at text))
+
+module _ {stop : ℕ → Bool} {text : List ℕ} {at i : ℕ} (r : Running stop text at i) where
+  pub running_step : i < length text → stop (get_or text i 0) ≡ false → Running stop text at (i + 1)
+  running_step h e =
+      let more : length (until stop (drop i text)) ≡ suc (length (until stop (drop (suc i) text))) = ap (λ (xs : List ℕ). length (until stop xs)) (drop-cons text i 0 h) ∙ ap length (until_more stop (get_or text i 0) (drop (suc i) text) e) in
+      rw add-one (record { ahead = omega (arith, r.ahead); within = h; same_end = omega (arith, r.same_end, more) })
+
+  pub running_stop : i < length text → stop (get_or text i 0) ≡ true → i ≡ at + length (until stop (drop at text))
+  running_stop h e =
+      let none : length (until stop (drop i text)) ≡ 0 = ap (λ (xs : List ℕ). length (until stop xs)) (drop-cons text i 0 h) ∙ ap length (until_stop stop (get_or text i 0) (drop (suc i) text) e) in
+      omega (arith, r.same_end, none)
+
+  pub running_end : length text ≤ i → i ≡ at + length (until stop (drop at text))
+  running_end h =
+      let none : length (until stop (drop i text)) ≡ 0 = ap (λ (xs : List ℕ). length (until stop xs)) (drop_of_length-le text h) ∙ ap length (until_none stop) in
+      omega (arith, r.same_end, none)
 
 -- how many bytes the iterator takes from `at` on before the first that passes the test
 taken_until : (stop : ℕ → Bool) (xs : List ℕ) → take_while (λ (b : ℕ). not (stop b)) xs ≡ until stop xs

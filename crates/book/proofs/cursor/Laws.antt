@@ -298,6 +298,8 @@ module _ {text : List ℕ} {at from : ℕ} (s : SpaceEnd text at from) where
   stepped_in_line (Some word) next e w =
       let begins = begins_word text from next e w.0 in
       record {
+        from = from;
+        place = w;
         within = rw e (until_within blank text from s.within);
         words = ap (map (λ (p : Piece). p.bytes)) (s.same_line ∙ line_at text from next begins.0 begins.1 e) ∙ ap (λ (w : List ℕ). w ∷ map (λ (p : Piece). p.bytes) (words_line next (drop next text))) (sym w.1);
         same_behind = s.same_behind ∙ behind_at text from next begins.0 begins.1 e;

@@ -57,8 +57,10 @@ pub record SpaceEnd (text : List ℕ) (at r : ℕ) : Type 0 where
 abbrev pub line_words : List ℕ → ℕ → List (List ℕ)
 line_words text at = map (λ (p : Piece). p.bytes) (words_line at (drop at text))
 
--- the first word of the line from `at` on, and the place behind it
+-- the first word of the line from `at` on, which begins at `from`, and the place behind it
 pub record NextInLine (text : List ℕ) (at : ℕ) (word : List ℕ) (next : ℕ) : Type 0 where
+  pub from : ℕ
+  pub place : WordAt text from (Some word) next
   pub within : next ≤ length text
   pub words : line_words text at ≡ word ∷ line_words text next
   pub same_behind : words_behind at (drop at text) ≡ words_behind next (drop next text)

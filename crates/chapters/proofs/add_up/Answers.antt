@@ -1,17 +1,12 @@
-use mathlib.Core.Path.{◌≡◌, sym}
+use mathlib.Core.Path.{◌≡◌}
 use mathlib.Core.Logic.{⊎_elim, inl, inr}
 use native.Mathlib.Omega.{arith}
-use lib.Seq.{length-take-le}
-use Rattle.chapters.specs.Chapters.{chapter_count}
 use Rattle.chapters.proofs.FitLaws.{true_fit}
 use Rattle.chapters.proofs.SumLaws.{added_none, in_totals, fits_total, added_more, added_all}
 use Rattle.chapters.proofs.add_up.Goals as goal
 
 pub slice_bounds-fill-end : goal.slice_bounds-fill-end
 slice_bounds-fill-end c = (true_fit _ _ _ c.requires.totals_value).roomy
-
-pub slice_bounds-fill-end-2 : goal.slice_bounds-fill-end-2
-slice_bounds-fill-end-2 c = sym (length-take-le chapter_count c.args.totals.now (true_fit _ _ _ c.requires.totals_value).roomy)
 
 pub loop-count-init : goal.loop-count-init
 loop-count-init c =

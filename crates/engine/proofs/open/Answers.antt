@@ -1,5 +1,7 @@
 use Rattle.book.proofs.WellFormedLaws.{well_formed_limited}
 use Rattle.engine.proofs.opening.Laws.{opening_begun, opening_done}
+use Prim.Native.Nat.{◌-◌}
+use mathlib.Core.Path.{◌≡◌}
 use Rattle.std.proofs.Common.{◌∙◌, ap₂, arith}
 use Rattle.layout.specs.Layout.{required_length}
 use Rattle.engine.proofs.open.Goals as goal
@@ -12,5 +14,6 @@ propagate-requires c = opening_begun _ c.requires.well c.assign_units.ensures.en
 
 pub returns : goal.returns
 returns c =
-    opening_done _ c.requires.well _ _ _ (c.required_length-needed.ensures ∙ ap₂ required_length c.variables.ensures c.clauses.ensures) c.requires.long
+    let whole : c.required_length-needed.result - 0 ≡ c.required_length-needed.result = omega arith in
+    opening_done _ c.requires.well _ _ _ (whole ∙ c.required_length-needed.ensures ∙ ap₂ required_length c.variables.ensures c.clauses.ensures) c.requires.long
     c.fill.ensures.len c.watch_all.ensures c.assign_units.ensures (c.propagate.ensures (opening_begun _ c.requires.well c.assign_units.ensures.encodes))

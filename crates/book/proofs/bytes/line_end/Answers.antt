@@ -1,17 +1,15 @@
-use Rattle.std.proofs.Common.{rules, tests, ap, ◌∙◌, ◌-◌, ◌+◌, ℕ, length, take, drop}
-use Rattle.std.proofs.lemmas.Iterator.{YieldsList-from_slice}
-use Rattle.std.proofs.lemmas.Iterator.Consumers.{count_from_yields_List}
-use Rattle.std.proofs.lemmas.Iterator.Search.{YieldsList-from_take_while}
-use Rattle.std.specs.Prelude.{not}
+use borrow.Author.Tests.{eq-eqb, ne_eqb}
 use Rattle.book.specs.Text.{line_end}
-use Rattle.book.proofs.bytes.Laws.{count_until}
+use Rattle.book.proofs.bytes.Laws.{running_step, running_stop, running_end}
 use Rattle.book.proofs.bytes.line_end.Goals as goal
 
-pub returns : goal.returns
+pub loop-end-preserved : goal.loop-end-preserved
 unfolding line_end
-returns c =
-    let text = c.args.text.now in
-    let count =
-    count_from_yields_List c.take_while.result _ c.count.ensures.ran
-    (YieldsList-from_take_while _ (λ (b : ℕ). not (line_end b)) (YieldsList-from_slice (take (length text - c.args.at) (drop c.args.at text)) (cc)) c.take_while.ensures.closure c.take_while.ensures.done (λ x b q k. search (rules, tests))) in
-    ap (λ (n : ℕ). c.args.at + n) (count ∙ count_until line_end text c.args.at)
+loop-end-preserved c = running_step c.loop-end.invariant c.loop-end-test.true (ne_eqb _ _ c.if-text-end-ne10.true)
+
+pub returns-else-text-end-ne10 : goal.returns-else-text-end-ne10
+unfolding line_end
+returns-else-text-end-ne10 c = running_stop c.loop-end.invariant c.loop-end-test.true (eq-eqb _ _ c.if-text-end-ne10.false)
+
+pub returns-after-loop-end : goal.returns-after-loop-end
+returns-after-loop-end c = running_end c.loop-end.invariant c.loop-end-test.false

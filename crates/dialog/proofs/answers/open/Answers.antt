@@ -8,8 +8,12 @@ pub show_propagated-written-requires : goal.show_propagated-written-requires
 show_propagated-written-requires c =
     λ n e. rw c.open.ensures.session_after (opening_shows c.args.book.now c.args.session.now n (sym c.in-Ok.ensures.value ∙ ap Ok e))
 
-pub returns-in-Ok : goal.returns-in-Ok
-returns-in-Ok c =
+pub returns-in-Implied : goal.returns-in-Implied
+returns-in-Implied c =
+    opened_ok c.args.book.now c.args.session.now _ c.args.out.now _ _ c.open.ensures.session_after _ c.in-Ok.ensures.value c.show_propagated-written.ensures
+
+pub returns-in-Conflict : goal.returns-in-Conflict
+returns-in-Conflict c =
     opened_ok c.args.book.now c.args.session.now _ c.args.out.now _ _ c.open.ensures.session_after _ c.in-Ok.ensures.value c.show_propagated-written.ensures
 
 pub returns-in-Err : goal.returns-in-Err
