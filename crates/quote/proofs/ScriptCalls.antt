@@ -9,6 +9,7 @@ use native.Mathlib.Omega.{arith}
 use lib.ListN.{length, take, drop, length-drop, drop_of_length-le}
 use lib.Seq.{drop-drop}
 use Rattle.base.specs.Lists.{keep, flat}
+use Rattle.base.proofs.Lists.{tail_whole}
 use Rattle.base.proofs.Until.{take-until, until_within}
 use Rattle.book.specs.Formula.{Formula}
 use Rattle.book.specs.Text.{line_end}
@@ -108,6 +109,10 @@ back_lines_part first rest =
 pub record BacksBefore (script : List ℕ) (count at : ℕ) : Type 0 where
   pub few : count ≤ at
   pub rest : count + back_lines (drop at script) ≡ back_lines script
+
+-- where the line that stands at a place ends
+pub ends_at : (script : List ℕ) (at n : ℕ) → n ≡ length (line_bytes (take (length script - at) (drop at script))) → at + n ≡ at + length (line_bytes (drop at script))
+ends_at script at n e = ap (λ (k : ℕ). at + k) (e ∙ ap (λ (bytes : List ℕ). length (line_bytes bytes)) (tail_whole at script))
 
 pub backs_none : (script : List ℕ) → BacksBefore script 0 0
 backs_none script = record { few = omega arith; rest = omega arith }

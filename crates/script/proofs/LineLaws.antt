@@ -11,7 +11,8 @@ use lib.Pointwise.{pointwise}
 use Rattle.std.specs.Prelude.{Option, Some, None}
 use Rattle.std.specs.Option.{option_map}
 use Rattle.base.specs.Lists.{all}
-use Rattle.base.proofs.Bools.{and_parts}
+use Rattle.std.specs.List.{starts_with}
+use Rattle.base.proofs.Bools.{and_parts, eqb_sym}
 use Rattle.book.specs.Text.{unsigned, decimal}
 use Rattle.book.specs.Answer.{digits_of}
 use Rattle.book.proofs.DecimalLaws.{digit_false, unsigned_false, word_too_short, word_too_long}
@@ -55,6 +56,12 @@ module _ (digits : List ℕ) (n : Option ℕ) (read : n ≡ digits_of digits) wh
       let second = and_parts (eqb c 32) true first.1 in
       let other : eqb b 45 ≡ false = ne_eqb b 45 (λ q. omega (arith, eqb-true b 98 first.0)) in
       rw (other, first.0, second.0, ← behind) (asked (λ (k : ℕ). Back k))
+
+-- the first two bytes, as `starts_with` compares them
+pub starts_back : (line : List ℕ) → starts_with eqb line (98 ∷ 32 ∷ []) ≡ pointwise eqb (take 2 line) (98 ∷ 32 ∷ [])
+starts_back [] = refl
+starts_back (b ∷ []) = ap (λ (t : Bool). t && false) (eqb_sym 98 b)
+starts_back (b ∷ c ∷ bytes) = rw (eqb_sym 98 b, eqb_sym 32 c) refl
 
 -- a word that begins with `b` is no number, and without a blank behind it the line is malformed
 b_no_number : (b : ℕ) (bytes : List ℕ) → b ≡ 98 → digits_of (b ∷ bytes) ≡ None

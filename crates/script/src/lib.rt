@@ -45,8 +45,8 @@ pub fn parse_line(line: &[u8]) -> Option<Line>
 {
     if let Some(digits) = line.strip_prefix(b"-") {
         Some(Line::Choose(2 * book::number(digits)? + 1))
-    } else if let Some(digits) = line.strip_prefix(b"b ") {
-        Some(Line::Back(book::number(digits)?))
+    } else if line.starts_with(b"b ") {
+        Some(Line::Back(book::number(line.get(2..)?)?))
     } else {
         Some(Line::Choose(2 * book::number(line)?))
     }

@@ -1,5 +1,9 @@
+use mathlib.Core.Path.{sym, ◌∙◌}
+use native.Mathlib.Omega.{arith}
+use lib.ListN.{length}
 use Rattle.std.specs.Prelude.{Some, None}
-use Rattle.script.proofs.LineLaws.{line_negative, line_back, line_positive}
+use Rattle.std.proofs.lemmas.Slice.{between_to_end}
+use Rattle.script.proofs.LineLaws.{line_negative, line_back, starts_back, line_positive}
 use Rattle.script.proofs.parse_line.Goals as goal
 
 pub returns-in_err-number : goal.returns-in_err-number
@@ -14,19 +18,21 @@ returns-in_ok-number c =
 
 pub returns-in_err-number-2 : goal.returns-in_err-number-2
 returns-in_err-number-2 c =
-    let begins = c.in-Some-strip_prefix.ensures.cases in
-    rw c.from_residual-in_err-number-2.ensures (line_back _ None c.in_err-number-2.ensures _ begins.0 begins.1)
+    let line = c.args.line.now in
+    rw c.from_residual-in_err-number-2.ensures
+    (line_back _ None c.in_err-number-2.ensures line (sym (c.if-starts_with.ensures.value ∙ starts_back line)) (c.in_ok-get.ensures.lookup.0.2 ∙ between_to_end line 2 (length line) (omega arith)))
 
 pub returns-in_ok-number-2 : goal.returns-in_ok-number-2
 returns-in_ok-number-2 c =
-    let begins = c.in-Some-strip_prefix.ensures.cases in
-    line_back _ (Some c.in_ok-number-2.field-0) c.in_ok-number-2.ensures _ begins.0 begins.1
+    let line = c.args.line.now in
+    line_back _ (Some c.in_ok-number-2.field-0) c.in_ok-number-2.ensures line (sym (c.if-starts_with.ensures.value ∙ starts_back line))
+    (c.in_ok-get.ensures.lookup.0.2 ∙ between_to_end line 2 (length line) (omega arith))
 
 pub returns-in_err-number-3 : goal.returns-in_err-number-3
 returns-in_err-number-3 c =
     rw c.from_residual-in_err-number-3.ensures
-    (line_positive _ None c.in_err-number-3.ensures c.in_default.ensures.cases c.in_default-strip_prefix.ensures.cases)
+    (line_positive _ None c.in_err-number-3.ensures c.in_default.ensures.cases (sym (c.if-starts_with.ensures.value ∙ starts_back c.args.line.now)))
 
 pub returns-in_ok-number-3 : goal.returns-in_ok-number-3
 returns-in_ok-number-3 c =
-    line_positive _ (Some c.in_ok-number-3.field-0) c.in_ok-number-3.ensures c.in_default.ensures.cases c.in_default-strip_prefix.ensures.cases
+    line_positive _ (Some c.in_ok-number-3.field-0) c.in_ok-number-3.ensures c.in_default.ensures.cases (sym (c.if-starts_with.ensures.value ∙ starts_back c.args.line.now))
